@@ -111,7 +111,7 @@ impl State {
     }
 
     /// Forgets what the port does not keep since nothing reads it again: of a received segment all but sn, frg and payload,
-    /// of a segment to send cmd, wnd and una, which each transmission writes anew.
+    /// of a segment in flight wnd and una, which each transmission writes anew.
     pub fn forget_unread(&mut self) {
         for s in self.rcv_queue.iter_mut().chain(self.rcv_buf.iter_mut()) {
             s.conv = 0;
@@ -121,7 +121,6 @@ impl State {
             s.una = 0;
         }
         for s in self.snd_buf.iter_mut() {
-            s.cmd = 0;
             s.wnd = 0;
             s.una = 0;
         }

@@ -1,0 +1,268 @@
+//! Makes the calls: sequences that lead a block deep into its states, and stay on document 01's domain of equality.
+//!
+//! A plain random generator hardly leaves the shallow states. So each sequence has a profile, which says how the block is set up
+//! and how often each kind of call comes; and each call is made with the judge's state in sight, so that its numbers fall on edges.
+
+use crate::call::{datagram, Call, Piece, Sizes, LEAVES, PUSH};
+use crate::moves::{self, Move};
+use crate::random::Random;
+use crate::rust_side::Sink;
+use crate::side::Outcome;
+use kcp_judge::Kcp;
+use state::State;
+use std::collections::VecDeque;
+
+#[derive(Clone, Copy, PartialEq, Eq, Debug)]
+pub enum Profile {
+    /// Every call, everyday settings.
+    Mixed,
+    /// The receive queue is driven full, and windows are raised and lowered over it.
+    Windows,
+    /// Messages of many fragments, some without an end; buffers of about their size.
+    Fragments,
+    /// One segment stays stuck through long runs of acks.
+    Stuck,
+    /// Round trips of odd lengths: near 0, 2^32 / 3 and 2^31.
+    Times,
+    /// Clocks that leap: by 10,000, to the flush, by 2^31.
+    Clock,
+    /// mtu between 50 and 1,500 while segments are queued, in flight, and acks wait.
+    Mtu,
+    /// Datagrams that are refused midway; convs that are adopted.
+    Refused,
+    /// Time-outs, one after the other, until the link is dead and the times wrap.
+    Timeouts,
+    /// Closed windows, probes and answers to them.
+    Probes,
+    /// Congestion: growth, loss and fast resends, from windows of every size.
+    Growth,
+    /// A second block at the other end of a line that loses, repeats and reorders.
+    Link,
+    /// The functions that take numbers and bytes alone.
+    Leaves,
+}
+
+pub const PROFILES: [(Profile, &str); 13] = [
+    (Profile::Mixed, "mixed"),
+    (Profile::Windows, "windows"),
+    (Profile::Fragments, "fragments"),
+    (Profile::Stuck, "stuck"),
+    (Profile::Times, "times"),
+    (Profile::Clock, "clock"),
+    (Profile::Mtu, "mtu"),
+    (Profile::Refused, "refused"),
+    (Profile::Timeouts, "timeouts"),
+    (Profile::Probes, "probes"),
+    (Profile::Growth, "growth"),
+    (Profile::Link, "link"),
+    (Profile::Leaves, "leaves"),
+];
+
+pub struct Generator {
+    pub random: Random,
+    pub profile: Profile,
+    pub clock: u32,
+    pub sizes: Sizes,
+    /// Tells payloads apart.
+    pub mark: u8,
+    pending: VecDeque<Call>,
+    left: usize,
+    peer: Option<Peer>,
+}
+
+/// The block at the other end, and what is on its way from there.
+struct Peer {
+    kcp: Kcp<Sink>,
+    inbox: VecDeque<Vec<u8>>,
+}
+
+impl Generator {
+    pub fn new(seed: u64, sequence: u64, profile: Option<Profile>, calls: &[String]) -> Generator {
+        let mut random = Random::new(seed.wrapping_mul(1_000_003).wrapping_add(sequence));
+        let leaves = !calls.is_empty() && calls.iter().all(|c| LEAVES.contains(&c.as_str()));
+        let profile = match profile {
+            Some(p) => p,
+            None if leaves => Profile::Leaves,
+            None => PROFILES[(sequence % PROFILES.len() as u64) as usize].0,
+        };
+        let left = if random.once_in(4) { 400 } else { 20 + random.below(120) };
+        let sizes = Sizes {
+            receive: random.pick(&[256, 512, 1024, 1024]),
+            send: random.pick(&[128, 256, 1024]),
+            acks: random.pick(&[128, 512, 4096]),
+        };
+        let mut g = Generator {
+            clock: 0,
+            sizes,
+            mark: random.word() as u8,
+            pending: VecDeque::new(),
+            left,
+            peer: None,
+            random,
+            profile,
+        };
+        g.set_up();
+        g
+    }
+
+    fn set_up(&mut self) {
+        if self.profile == Profile::Leaves {
+            return;
+        }
+        let r = &mut self.random;
+        let edge = |r: &mut Random| r.weighted(&[(0, 3), (r.clone().near(0), 1), (r.clone().near(1 << 31), 1), (0u32.wrapping_sub(1 + r.clone().below(60) as u32), 3), (r.clone().word(), 1)]);
+        let (rcv, snd) = (edge(r), edge(r));
+        let conv = r.pick(&[1, 0, 0x1122_3344, u32::MAX]);
+        let stream = r.once_in(4);
+        self.clock = r.weighted(&[(0, 3), (r.clone().below(1000) as u32, 3), (r.clone().near(1 << 31), 1), (0u32.wrapping_sub(r.clone().below(400) as u32), 2), (r.clone().word(), 1)]);
+        self.pending.push_back(Call::Start { conv, stream, rcv, snd, sizes: self.sizes });
+        let calls = moves::first_calls(self);
+        self.pending.extend(calls);
+        if self.profile == Profile::Link {
+            self.peer = Some(Peer::new(conv, stream, snd, rcv, &mut self.random));
+        }
+    }
+
+    pub fn fill(&mut self, len: usize) -> crate::call::Fill {
+        self.mark = self.mark.wrapping_add(1);
+        crate::call::Fill { len, seed: self.mark }
+    }
+
+    /// The next call, for a block in this state; `None` ends the sequence.
+    pub fn next(&mut self, s: &State) -> Option<Call> {
+        if let Some(call) = self.pending.pop_front() {
+            return Some(call);
+        }
+        if self.left == 0 {
+            return None;
+        }
+        self.left -= 1;
+        if let Some(datagram) = self.delivery() {
+            let call = Call::Input(vec![Piece::Raw(datagram)]);
+            if self.on_domain(&call, s) {
+                return Some(call);
+            }
+        }
+        if s.acklist.len() + 70 > self.sizes.acks && self.random.below(8) > 0 {
+            return Some(if s.updated { Call::FlushAck } else { Call::Update(self.clock) });
+        }
+        for _ in 0..8 {
+            let kind = self.random.weighted(moves::weights(self.profile));
+            let call = moves::make(kind, self, s);
+            if self.on_domain(&call, s) {
+                if let Call::Update(t) = call {
+                    self.clock = t;
+                }
+                return Some(call);
+            }
+        }
+        Some(moves::make(Move::Getter, self, s))
+    }
+
+    /// Hears what the call showed: what the block sends goes to the other end, unless it is lost.
+    pub fn saw(&mut self, outcome: &Outcome) {
+        let clock = self.clock;
+        let random = &mut self.random;
+        if let Some(peer) = &mut self.peer {
+            for d in &outcome.datagrams {
+                if !random.once_in(6) {
+                    let _ = peer.kcp.input(d);
+                }
+            }
+            peer.live(clock, random);
+        }
+    }
+
+    /// A datagram from the other end: mostly the oldest, sometimes another, sometimes again.
+    fn delivery(&mut self) -> Option<Vec<u8>> {
+        let random = &mut self.random;
+        let peer = self.peer.as_mut()?;
+        if peer.inbox.is_empty() || random.once_in(3) {
+            return None;
+        }
+        let at = if random.once_in(4) { random.below(peer.inbox.len()) } else { 0 };
+        if random.once_in(10) {
+            return peer.inbox.get(at).cloned();
+        }
+        let taken = peer.inbox.remove(at);
+        if random.once_in(8) {
+            return None;
+        }
+        taken
+    }
+
+    /// Whether the call leaves the block on document 01's domain of equality: no answer from 11 on, no push skipped.
+    fn on_domain(&self, call: &Call, s: &State) -> bool {
+        match call {
+            Call::Input(pieces) => {
+                let bytes = datagram(pieces);
+                bytes.len() <= 1500 && s.acklist.len() + pushes(&bytes) <= self.sizes.acks
+            }
+            Call::Send(fill) => send_fits(s, fill.len, self.sizes.send),
+            Call::SetWndsize(_, rcv) => *rcv == 0 || 2 * (*rcv).max(128) as usize <= self.sizes.receive,
+            Call::SetMtu(mtu) => *mtu <= 1500,
+            Call::Recv(_) | Call::Peeksize => s.rcv_queue.first().map_or(true, |x| x.frg != 255),
+            _ => true,
+        }
+    }
+}
+
+/// How many pushes a datagram can hold, at most.
+fn pushes(bytes: &[u8]) -> usize {
+    let mut at = 0;
+    let mut count = 0;
+    while at + 24 <= bytes.len() {
+        count += (bytes[at + 4] == PUSH) as usize;
+        let len = u32::from_le_bytes([bytes[at + 20], bytes[at + 21], bytes[at + 22], bytes[at + 23]]) as usize;
+        at = at.saturating_add(24).saturating_add(len);
+    }
+    count
+}
+
+/// Whether a send gets no answer 12: it is refused by 8, or its segments find slots.
+fn send_fits(s: &State, len: usize, slots: usize) -> bool {
+    let mut rest = len;
+    if s.stream {
+        let last = s.snd_queue.last().map_or(s.mss, |x| x.data.len());
+        rest -= rest.min(s.mss.saturating_sub(last));
+        if rest == 0 {
+            return true;
+        }
+    }
+    let count = ((rest + s.mss - 1) / s.mss).max(1);
+    count >= 128 || s.snd_buf.len() + s.snd_queue.len() + count <= slots
+}
+
+impl Peer {
+    fn new(conv: u32, stream: bool, rcv: u32, snd: u32, random: &mut Random) -> Peer {
+        let mut kcp = if stream { Kcp::new_stream(conv, Sink::default()) } else { Kcp::new(conv, Sink::default()) };
+        let mut s = State::default();
+        kcp_judge::inside::read(&kcp, &mut s);
+        s.rcv_nxt = rcv;
+        s.snd_una = snd;
+        s.snd_nxt = snd;
+        kcp_judge::inside::lay(&mut kcp, &s);
+        kcp.set_nodelay(random.once_in(2), 10, random.below(3) as i32, random.once_in(2));
+        kcp.set_wndsize(random.pick(&[4, 32, 128]), 128);
+        let _ = kcp.set_mtu(random.pick(&[100, 300, 1400]));
+        Peer { kcp, inbox: VecDeque::new() }
+    }
+
+    /// Reads, writes and sends as a user at the other end would.
+    fn live(&mut self, clock: u32, random: &mut Random) {
+        let mut buffer = [0; 4096];
+        if random.once_in(2) {
+            let _ = self.kcp.recv(&mut buffer);
+        }
+        if random.once_in(3) && self.kcp.wait_snd() < 64 {
+            let n = random.below(400);
+            let _ = self.kcp.send(&buffer[..n]);
+        }
+        let _ = self.kcp.update(clock);
+        let sink = kcp_judge::inside::output(&mut self.kcp);
+        self.inbox.extend(sink.datagrams.drain(..));
+        while self.inbox.len() > 64 {
+            self.inbox.pop_front();
+        }
+    }
+}

@@ -1,0 +1,249 @@
+//! The memory that a host lends to the port, and a state laid into it and read back.
+//!
+//! A block is a list of words, the fields in the order of `WORDS`. A pool is an order of slots, a record of numbers for each slot,
+//! and 1,476 bytes for each. The first entries of the order name the slots in use, front region then back region: of the receive
+//! pool the queue and the held segments, of the send pool those in flight and those that wait. An entry is the payload's length
+//! times 65,536 plus the slot. What stands in unused entries, records and bytes is no fault.
+
+use driver::call::{Sizes, PUSH};
+use state::{Segment, State};
+
+pub const ROOM: usize = 1476;
+pub const WAITING: usize = 1500;
+/// sn, frg
+pub const RECEIVE_WIDTH: usize = 2;
+/// conv, frg, sn, ts, resendts, rto, fastack, xmit
+pub const SEND_WIDTH: usize = 8;
+
+/// The words of a block, in order.
+pub const WORDS: [&str; 40] = [
+    "conv", "mtu", "mss", "dead", "snd_una", "snd_nxt", "rcv_nxt", "ssthresh", "rx_rttval", "rx_srtt", "rx_rto", "rx_minrto",
+    "snd_wnd", "rcv_wnd", "rmt_wnd", "cwnd", "probe", "current", "interval", "ts_flush", "xmit", "nodelay", "updated", "ts_probe",
+    "probe_wait", "dead_link", "incr_low", "incr_high", "fastresend", "fastlimit", "nocwnd", "stream", "input_conv", "largest",
+    "queued", "held", "flying", "waiting_to_fly", "acks", "waiting",
+];
+
+#[derive(Clone)]
+pub struct Pool {
+    pub width: usize,
+    pub order: Vec<u32>,
+    pub records: Vec<u32>,
+    pub room: Vec<u8>,
+}
+
+#[derive(Clone)]
+pub struct Memory {
+    pub words: Vec<u32>,
+    pub receive: Pool,
+    pub send: Pool,
+    pub acks: Vec<u32>,
+    pub waiting: Vec<u8>,
+    /// Sets in which slots the next state is laid.
+    turn: usize,
+}
+
+/// What old contents look like.
+const STALE: u32 = 0xDEAD_BEEF;
+
+impl Pool {
+    pub fn new(slots: usize, width: usize) -> Pool {
+        Pool { width, order: vec![STALE; slots], records: vec![STALE; slots * width], room: vec![0xEE; slots * ROOM] }
+    }
+
+    /// Puts the segments into slots that are scattered by `turn`.
+    fn lay<'a>(&mut self, turn: usize, segments: impl Iterator<Item = (&'a Segment, Vec<u32>)>) -> usize {
+        let slots = self.order.len();
+        let mut n = 0;
+        for (segment, numbers) in segments {
+            let slot = (turn + n * stride(slots)) % slots;
+            let len = segment.data.len();
+            self.order[n] = (len * 65536 + slot) as u32;
+            self.records[slot * self.width..][..self.width].copy_from_slice(&numbers);
+            self.room[slot * ROOM..][..len].copy_from_slice(&segment.data);
+            n += 1;
+        }
+        n
+    }
+
+    fn read(&self, from: usize, count: usize, into: &mut Vec<Segment>, of: fn(&[u32]) -> Segment) {
+        into.resize_with(count, Segment::default);
+        for (i, segment) in into.iter_mut().enumerate() {
+            let entry = self.order[from + i] as usize;
+            let (slot, len) = (entry % 65536, entry / 65536);
+            segment.set(of(&self.records[slot * self.width..][..self.width]), &self.room[slot * ROOM..][..len]);
+        }
+    }
+}
+
+/// A step that visits each of `slots` places once.
+fn stride(slots: usize) -> usize {
+    (7..).step_by(2).find(|k| gcd(*k, slots) == 1).unwrap_or(1)
+}
+
+fn gcd(a: usize, b: usize) -> usize {
+    if b == 0 {
+        a
+    } else {
+        gcd(b, a % b)
+    }
+}
+
+fn received(s: &Segment) -> Vec<u32> {
+    vec![s.sn, s.frg as u32]
+}
+
+fn as_received(n: &[u32]) -> Segment {
+    Segment { sn: n[0], frg: n[1] as u8, ..Segment::default() }
+}
+
+fn to_send(s: &Segment) -> Vec<u32> {
+    vec![s.conv, s.frg as u32, s.sn, s.ts, s.resendts, s.rto, s.fastack, s.xmit]
+}
+
+fn as_flying(n: &[u32]) -> Segment {
+    Segment { cmd: PUSH, ..as_waiting(n) }
+}
+
+fn as_waiting(n: &[u32]) -> Segment {
+    Segment {
+        conv: n[0],
+        frg: n[1] as u8,
+        sn: n[2],
+        ts: n[3],
+        resendts: n[4],
+        rto: n[5],
+        fastack: n[6],
+        xmit: n[7],
+        ..Segment::default()
+    }
+}
+
+impl Memory {
+    pub fn new(sizes: Sizes) -> Memory {
+        Memory {
+            words: vec![STALE; WORDS.len()],
+            receive: Pool::new(sizes.receive, RECEIVE_WIDTH),
+            send: Pool::new(sizes.send, SEND_WIDTH),
+            acks: vec![STALE; 2 * sizes.acks],
+            waiting: vec![0xEE; WAITING],
+            turn: 0,
+        }
+    }
+
+    pub fn word(&self, name: &str) -> u32 {
+        WORDS.iter().position(|w| *w == name).map_or(0, |i| self.words[i])
+    }
+
+    /// Whether the state has a place in memory of this size: every state that the domain of equality allows has one.
+    pub fn fits(&self, s: &State) -> bool {
+        s.rcv_queue.len() + s.rcv_buf.len() <= self.receive.order.len()
+            && s.snd_buf.len() + s.snd_queue.len() <= self.send.order.len()
+            && 2 * s.acklist.len() <= self.acks.len()
+            && s.buf.len() <= self.waiting.len()
+            && s.rcv_queue.iter().chain(&s.rcv_buf).chain(&s.snd_buf).chain(&s.snd_queue).all(|x| x.data.len() <= ROOM)
+    }
+
+    /// Lays the state; it must fit.
+    pub fn lay(&mut self, s: &State) {
+        self.turn = self.turn.wrapping_add(13) % 4096;
+        self.receive.lay(self.turn, s.rcv_queue.iter().chain(&s.rcv_buf).map(|x| (x, received(x))));
+        self.send.lay(self.turn, s.snd_buf.iter().chain(&s.snd_queue).map(|x| (x, to_send(x))));
+        for (i, (sn, ts)) in s.acklist.iter().enumerate() {
+            self.acks[2 * i] = *sn;
+            self.acks[2 * i + 1] = *ts;
+        }
+        self.waiting[..s.buf.len()].copy_from_slice(&s.buf);
+        let incr = s.incr as u64;
+        self.words = vec![
+            s.conv,
+            s.mtu as u32,
+            s.mss as u32,
+            (s.state != 0) as u32,
+            s.snd_una,
+            s.snd_nxt,
+            s.rcv_nxt,
+            s.ssthresh as u32,
+            s.rx_rttval,
+            s.rx_srtt,
+            s.rx_rto,
+            s.rx_minrto,
+            s.snd_wnd as u32,
+            s.rcv_wnd as u32,
+            s.rmt_wnd as u32,
+            s.cwnd as u32,
+            s.probe,
+            s.current,
+            s.interval,
+            s.ts_flush,
+            s.xmit,
+            s.nodelay as u32,
+            s.updated as u32,
+            s.ts_probe,
+            s.probe_wait,
+            s.dead_link,
+            incr as u32,
+            (incr >> 32) as u32,
+            s.fastresend,
+            s.fastlimit,
+            s.nocwnd as u32,
+            s.stream as u32,
+            s.input_conv as u32,
+            s.largest as u32,
+            s.rcv_queue.len() as u32,
+            s.rcv_buf.len() as u32,
+            s.snd_buf.len() as u32,
+            s.snd_queue.len() as u32,
+            s.acklist.len() as u32,
+            s.buf.len() as u32,
+        ];
+    }
+
+    /// The state that the memory holds.
+    pub fn read(&self, s: &mut State) {
+        let w = |name: &str| self.word(name);
+        let count = |name: &str| self.word(name) as usize;
+        s.conv = w("conv");
+        s.mtu = count("mtu");
+        s.mss = count("mss");
+        s.state = -(w("dead") as i32);
+        s.snd_una = w("snd_una");
+        s.snd_nxt = w("snd_nxt");
+        s.rcv_nxt = w("rcv_nxt");
+        s.ssthresh = w("ssthresh") as u16;
+        s.rx_rttval = w("rx_rttval");
+        s.rx_srtt = w("rx_srtt");
+        s.rx_rto = w("rx_rto");
+        s.rx_minrto = w("rx_minrto");
+        s.snd_wnd = w("snd_wnd") as u16;
+        s.rcv_wnd = w("rcv_wnd") as u16;
+        s.rmt_wnd = w("rmt_wnd") as u16;
+        s.cwnd = w("cwnd") as u16;
+        s.probe = w("probe");
+        s.current = w("current");
+        s.interval = w("interval");
+        s.ts_flush = w("ts_flush");
+        s.xmit = w("xmit");
+        s.nodelay = w("nodelay") != 0;
+        s.updated = w("updated") != 0;
+        s.ts_probe = w("ts_probe");
+        s.probe_wait = w("probe_wait");
+        s.dead_link = w("dead_link");
+        s.incr = count("incr_low") | count("incr_high") << 32;
+        s.fastresend = w("fastresend");
+        s.fastlimit = w("fastlimit");
+        s.nocwnd = w("nocwnd") != 0;
+        s.stream = w("stream") != 0;
+        s.input_conv = w("input_conv") != 0;
+        s.largest = w("largest") as u16;
+        let (queued, held) = (count("queued"), count("held"));
+        self.receive.read(0, queued, &mut s.rcv_queue, as_received);
+        self.receive.read(queued, held, &mut s.rcv_buf, as_received);
+        let (flying, waiting) = (count("flying"), count("waiting_to_fly"));
+        self.send.read(0, flying, &mut s.snd_buf, as_flying);
+        self.send.read(flying, waiting, &mut s.snd_queue, as_waiting);
+        s.acklist.clear();
+        s.acklist.extend((0..count("acks")).map(|i| (self.acks[2 * i], self.acks[2 * i + 1])));
+        s.buf.clear();
+        s.buf.extend_from_slice(&self.waiting[..count("waiting")]);
+    }
+}

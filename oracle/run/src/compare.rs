@@ -1,0 +1,149 @@
+//! oracle/compare: holds the judge and another side to the same calls. The script of that name has the usage.
+
+use driver::call::{parse, Call, LEAVES, NAMES};
+use driver::generator::PROFILES;
+use driver::run::{replay, run, Finding, Plan};
+use driver::shrink::shrink;
+use driver::side::Side;
+use driver::{rust_side, Judge};
+use port::through::Through;
+use std::io::{self, Write};
+use std::process::exit;
+use std::time::Instant;
+
+rust_side!(Copy, kcp_other);
+
+fn usage(line: &str) -> ! {
+    eprintln!("compare: {}; see oracle/compare --help", line);
+    exit(2)
+}
+
+struct Wanted {
+    plan: Plan,
+    script: Option<String>,
+    /// No shortening of what is found, and one line for it: for the planted slips.
+    brief: bool,
+    /// Says on standard error how far it is: for a terminal.
+    progress: bool,
+}
+
+fn arguments() -> Wanted {
+    let mut wanted = Wanted { plan: Plan::default(), script: None, brief: false, progress: false };
+    let mut words = Vec::new();
+    let mut rest = std::env::args().skip(1);
+    while let Some(word) = rest.next() {
+        match word.as_str() {
+            "--replay" => wanted.script = Some(rest.next().unwrap_or_else(|| usage("--replay wants a file"))),
+            "--profile" => wanted.plan.profile = Some(profile(rest.next())),
+            "--brief" => wanted.brief = true,
+            "--progress" => wanted.progress = true,
+            w if w.starts_with('-') => usage(&format!("unknown option '{}'", w)),
+            _ => words.push(word),
+        }
+    }
+    if wanted.script.is_none() {
+        if words.len() < 2 {
+            usage("SEED and COUNT are wanted");
+        }
+        wanted.plan.seed = number(&words.remove(0), "SEED");
+        wanted.plan.count = number(&words.remove(0), "COUNT");
+    }
+    for word in &words {
+        if !NAMES.contains(&word.as_str()) && !LEAVES.contains(&word.as_str()) {
+            usage(&format!("'{}' is no call", word));
+        }
+    }
+    wanted.plan.calls = words;
+    wanted
+}
+
+fn number(word: &str, name: &str) -> u64 {
+    word.parse().unwrap_or_else(|_| usage(&format!("{} is to be a number, and not '{}'", name, word)))
+}
+
+fn profile(word: Option<String>) -> driver::generator::Profile {
+    let word = word.unwrap_or_else(|| usage("--profile wants a name"));
+    match PROFILES.iter().find(|p| p.1 == word) {
+        Some(p) => p.0,
+        None => usage(&format!("'{}' is no profile", word)),
+    }
+}
+
+fn read_script(path: &str) -> Vec<Call> {
+    let text = std::fs::read_to_string(path).unwrap_or_else(|e| usage(&format!("cannot read {}: {}", path, e)));
+    let mut calls = Vec::new();
+    for (i, line) in text.lines().enumerate() {
+        match parse(line) {
+            Ok(Some(call)) => calls.push(call),
+            Ok(None) => {}
+            Err(e) => usage(&format!("{}:{}: {}", path, i + 1, e)),
+        }
+    }
+    calls
+}
+
+fn other() -> Box<dyn Side> {
+    Box::new(Through::new(Copy::default()))
+}
+
+/// Prints the finding as a script that `--replay` takes.
+fn show(finding: &Finding) {
+    println!("# differs after the last call (the judge's | the other's):");
+    for what in &finding.what {
+        let line: String = what.chars().take(400).collect();
+        println!("#   {}", line);
+    }
+    for call in &finding.script {
+        println!("{}", call);
+    }
+}
+
+fn main() {
+    let wanted = arguments();
+    // a side that breaks off is an answer to compare, and not a message
+    std::panic::set_hook(Box::new(|_| {}));
+    let (calls, finding) = match &wanted.script {
+        Some(path) => {
+            let script = read_script(path);
+            replay(&mut Judge::default(), &mut *other(), &script, &wanted.plan.calls)
+        }
+        None => search(&wanted),
+    };
+    if let Some(finding) = &finding {
+        if !wanted.brief {
+            show(finding);
+        }
+    }
+    println!("{} calls, {} differences", calls, finding.is_some() as u32);
+    let _ = io::stdout().flush();
+    exit(finding.is_some() as i32)
+}
+
+fn search(wanted: &Wanted) -> (u64, Option<Finding>) {
+    let began = Instant::now();
+    let terminal = wanted.progress;
+    let mut told = 0;
+    let count = wanted.plan.count;
+    let mut progress = |calls: u64| {
+        let seconds = began.elapsed().as_secs();
+        if terminal && seconds > told + 1 {
+            told = seconds;
+            eprint!("\r{} of {} calls, {} s ", calls, count, seconds);
+        }
+    };
+    let report = run(&mut Judge::default(), &mut *other(), &wanted.plan, &mut progress);
+    if terminal && told > 0 {
+        eprintln!();
+    }
+    let finding = match report.finding {
+        Some(finding) if !wanted.brief => {
+            if terminal {
+                eprintln!("a difference after {} calls; looking for the shortest sequence that shows it", report.calls);
+            }
+            let calls = &wanted.plan.calls;
+            Some(shrink(finding, 20, &mut |script| replay(&mut Judge::default(), &mut *other(), script, calls).1))
+        }
+        other => other,
+    };
+    (report.calls, finding)
+}
