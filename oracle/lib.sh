@@ -58,10 +58,12 @@ put() {
 }
 
 # Runs cargo in the package $1 of the oracle, offline, with Debian's crate sources in place of the registry.
+# What it builds goes to the folder $cargo_out.
+cargo_out=$build/cargo
 cargo_in() {
     package=$1
     shift
-    (cd "$here/$package" && CARGO_TARGET_DIR=$build/cargo cargo "$@" --offline --quiet \
+    (cd "$here/$package" && CARGO_TARGET_DIR=$cargo_out cargo "$@" --offline --quiet \
         --config 'source.crates-io.replace-with="debian"' \
         --config "source.debian.directory=\"$registry\"")
 }

@@ -4,6 +4,7 @@ pub mod call;
 pub mod generator;
 pub mod moves;
 pub mod random;
+pub mod rows;
 pub mod run;
 pub mod rust_side;
 pub mod shrink;

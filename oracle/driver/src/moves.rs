@@ -126,7 +126,7 @@ pub fn make(kind: Move, g: &mut Generator, s: &State) -> Call {
     match kind {
         Push => Call::Input(vec![push(g, s)]),
         PushRun => push_run(g, s),
-        Ack => Call::Input(some(g, s, ack, 3)),
+        Ack => Call::Input(acks(g, s)),
         AckRun => ack_run(g, s),
         AckTimes => Call::Input(some(g, s, ack_times, 2)),
         Ask => Call::Input(vec![plain(g, s, ASK)]),
@@ -253,7 +253,9 @@ fn fragment(g: &mut Generator) -> u8 {
     if g.profile != Profile::Fragments && r.below(4) > 0 {
         return 0;
     }
-    r.weighted(&[(0, 8), (1, 4), (2, 3), (3, 2), (7, 1), (100, 1), (127, 1), (128, 1), (254, 1)])
+    // every other sequence has few ends, so that the queue holds none
+    let ends = if g.sizes.send == 128 { 1 } else { 8 };
+    r.weighted(&[(0, ends), (1, 4), (2, 3), (3, 2), (7, 1), (100, 1), (127, 1), (128, 1), (254, 1)])
 }
 
 fn push(g: &mut Generator, s: &State) -> Piece {
@@ -307,6 +309,18 @@ fn ack(g: &mut Generator, s: &State) -> Piece {
         h.ts = r.near(seg.wrapping_add(1 << 31));
     }
     Piece::Segment(h, Fill { len: 0, seed: 0 })
+}
+
+/// Up to three acks; sometimes the second lies behind the first by one number and half of all times.
+fn acks(g: &mut Generator, s: &State) -> Vec<Piece> {
+    let mut pieces = some(g, s, ack, 3);
+    if g.random.once_in(8) {
+        if let Piece::Segment(h, fill) = pieces[0].clone() {
+            let ts = g.random.near(h.ts.wrapping_add(1 << 31));
+            pieces.push(Piece::Segment(Header { sn: h.sn.wrapping_add(1), ts, ..h }, fill));
+        }
+    }
+    pieces
 }
 
 /// An ack whose round trip is odd: the estimator runs for it whatever its number.

@@ -25,10 +25,11 @@ struct Wanted {
     brief: bool,
     /// Says on standard error how far it is: for a terminal.
     progress: bool,
+    rows: bool,
 }
 
 fn arguments() -> Wanted {
-    let mut wanted = Wanted { plan: Plan::default(), script: None, brief: false, progress: false };
+    let mut wanted = Wanted { plan: Plan::default(), script: None, brief: false, progress: false, rows: false };
     let mut words = Vec::new();
     let mut rest = std::env::args().skip(1);
     while let Some(word) = rest.next() {
@@ -36,12 +37,13 @@ fn arguments() -> Wanted {
             "--replay" => wanted.script = Some(rest.next().unwrap_or_else(|| usage("--replay wants a file"))),
             "--profile" => wanted.plan.profile = Some(profile(rest.next())),
             "--brief" => wanted.brief = true,
+            "--rows" => wanted.rows = true,
             "--progress" => wanted.progress = true,
             w if w.starts_with('-') => usage(&format!("unknown option '{}'", w)),
             _ => words.push(word),
         }
     }
-    if wanted.script.is_none() {
+    if wanted.script.is_none() && !wanted.rows {
         if words.len() < 2 {
             usage("SEED and COUNT are wanted");
         }
@@ -102,6 +104,9 @@ fn main() {
     let wanted = arguments();
     // a side that breaks off is an answer to compare, and not a message
     std::panic::set_hook(Box::new(|_| {}));
+    if wanted.rows {
+        rows();
+    }
     let (calls, finding) = match &wanted.script {
         Some(path) => {
             let script = read_script(path);
@@ -117,6 +122,16 @@ fn main() {
     println!("{} calls, {} differences", calls, finding.is_some() as u32);
     let _ = io::stdout().flush();
     exit(finding.is_some() as i32)
+}
+
+/// Document 01's worked values, on the judge.
+fn rows() -> ! {
+    let (bad, lines) = driver::rows::run(&mut Judge::default());
+    for line in &lines {
+        println!("{}", line);
+    }
+    println!("{} rows, {} wrong", lines.len(), bad);
+    exit((bad > 0) as i32)
 }
 
 fn search(wanted: &Wanted) -> (u64, Option<Finding>) {
