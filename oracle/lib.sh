@@ -72,5 +72,5 @@ cargo_in() {
 build_all() {
     write_judge "$build/judge" kcp_judge
     write_judge "$build/other" kcp_other
-    cargo_in run build --release || stop "the drivers did not build"
+    cargo_in run build --release && cargo_in timing build --release || stop "the drivers did not build"
 }
