@@ -1,0 +1,59 @@
+-- The starred worked values, as one table under one statement: what the definitions give is what the paper says, row by row.
+-- A further row is one more line of `table`. Assumes nothing.
+use Prim.Native.Nat.{ℕ}
+use mathlib.Core.Path.{_≡_, refl}
+use mathlib.Core.Bool.{Bool, true, false}
+use mathlib.Core.List.{List, [], _∷_, map}
+use lib.IntN.{ℤ, pos, negsuc}
+use Rattle.serial.specs.Branch.{pick}
+use Rattle.serial.specs.Wrap.{signed32, timediff}
+use Rattle.serial.specs.Window.{inWindow, acknowledged}
+use Rattle.estimator.specs.declared.Estimator.{Estimator}
+use Rattle.estimator.specs.Estimate.{fresh, timed, measured}
+
+pub data Value : Type 0 where
+  signed : ℤ → Value
+  flags : List Bool → Value
+  numbers : List ℕ → Value
+
+pub record Row : Type 0 where
+  pub gives : Value
+  pub says : Value
+
+row : Value → Value → Row
+row gives says = record { gives = gives; says = says }
+
+-- whether a push is acknowledged, and whether it is taken where it is not held
+push : ℕ → ℕ → ℕ → Value
+push rcvNxt rcvWnd sn = flags (acknowledged rcvNxt rcvWnd sn ∷ inWindow rcvNxt rcvWnd sn ∷ [])
+
+-- a fresh estimator that measures one time after the other, at the default interval
+after : List ℕ → Estimator
+after [] = fresh
+after (rtt ∷ earlier) = measured (after earlier) rtt 100
+
+times : Estimator → Value
+times e = numbers (e .srtt ∷ e .rttval ∷ e .rto ∷ [])
+
+pub table : List Row
+table =
+    -- "timediff(0, 4294967295) = 1; timediff(2147483648, 0) = −2147483648"
+    row (signed (timediff 0 4294967295)) (signed (pos 1))
+    ∷ row (signed (timediff 2147483648 0)) (signed (negsuc 2147483647))
+    -- "rcv_nxt 4294967290, window 128: sn 121 taken, 122 neither acked nor taken, 4294967289 acked only"
+    ∷ row (push 4294967290 128 121) (flags (true ∷ true ∷ []))
+    ∷ row (push 4294967290 128 122) (flags (false ∷ false ∷ []))
+    ∷ row (push 4294967290 128 4294967289) (flags (true ∷ false ∷ []))
+    -- "rcv_nxt 0, window 128: sn 2147483775 not acked, 2147483776 acked"
+    ∷ row (push 0 128 2147483775) (flags (false ∷ false ∷ []))
+    ∷ row (push 0 128 2147483776) (flags (true ∷ false ∷ []))
+    -- "Fresh, rtt 50: srtt 50, rttval 25, rto 150; then rtt 90: 55, 28, 167. Fresh, rtt 0: rto 100, srtt 0. Fresh, rtt 10: rto 110"
+    ∷ row (times (after (50 ∷ []))) (numbers (50 ∷ 25 ∷ 150 ∷ []))
+    ∷ row (times (after (90 ∷ 50 ∷ []))) (numbers (55 ∷ 28 ∷ 167 ∷ []))
+    ∷ row (numbers (after (0 ∷ []) .rto ∷ after (0 ∷ []) .srtt ∷ [])) (numbers (100 ∷ 0 ∷ []))
+    ∷ row (numbers (after (10 ∷ []) .rto ∷ [])) (numbers (110 ∷ []))
+    ∷ []
+
+pub worked : map (λ (r : Row). r .gives) table ≡ map (λ (r : Row). r .says) table
+unfolding row push after times table pick signed32 timed measured
+worked = refl
