@@ -68,8 +68,27 @@ cargo_in() {
         --config "source.debian.directory=\"$registry\"")
 }
 
+# Has the drivers link the port, where Rattle's kit is here to build it; else they go without.
+build_port() {
+    root=$(dirname "$here")
+    [ -d "$root/crates/kcp_c" ] || return 0
+    if ! command -v rt >/dev/null; then
+        complain "no 'rt' on the path: the port cannot be built, and a copy of the Rust stands in for it"
+        return 0
+    fi
+    library=$root/target/staticlib/libkcp_c.a
+    newer=
+    [ ! -f "$library" ] || newer=$(find "$root/crates" "$root/crates.txt" -newer "$library" -type f | head -n 1)
+    if [ ! -f "$library" ] || [ -n "$newer" ]; then
+        "$root/build" >"$build/port.log" 2>&1 || { cat "$build/port.log" >&2 && stop "the port did not build"; }
+    fi
+    KCP_C=$root/target/staticlib
+    export KCP_C
+}
+
 # Builds the judge, the copy that stands in for the port, and the drivers.
 build_all() {
+    build_port
     write_judge "$build/judge" kcp_judge
     write_judge "$build/other" kcp_other
     cargo_in run build --release && cargo_in timing build --release || stop "the drivers did not build"

@@ -2,9 +2,13 @@
 ghost use mathlib.Core.Path.{_≡_};
 ghost use Prim.Native.Nat.{min, max};
 ghost use Rattle.serial.specs.Wrap.{timediff};
-ghost use Rattle.wire.specs.Header.{convOf, snOf};
+ghost use Rattle.wire.specs.Header.{convOf, snOf, headerAt, headerBytes};
 ghost use Rattle.wire.specs.Helpers.{got, putOf, numberOfPut, withConv};
+ghost use Rattle.estimator.specs.Estimate.{measured};
 ghost use Rattle.kcp_c.specs.Told.{Told};
+ghost use Rattle.kcp_c.specs.Numbers.{header, headerNumbers, estimator, estimatorNumbers};
+use estimator::Estimator;
+use wire::Header;
 use wire::Number;
 use wire::Put;
 
@@ -60,4 +64,65 @@ pub extern "C" fn kcp_set_conv(buf: &mut [u8], conv: u32) -> u32
         return 16;
     };
     0
+}
+
+// The 24 bytes of a header, put into `out`.
+#[no_mangle]
+pub extern "C" fn kcp_header_bytes(
+    out: &mut [u8; 24],
+    conv: u32,
+    cmd: u8,
+    frg: u8,
+    wnd: u16,
+    ts: u32,
+    sn: u32,
+    una: u32,
+    len: u32,
+)
+    ensures { λ _. ⌜ now (out .exit) ≡ headerBytes (header conv cmd frg wnd ts sn una len) ⌝ }
+{
+    let h = Header {
+        conv: conv,
+        cmd: cmd,
+        frg: frg,
+        wnd: wnd,
+        ts: ts,
+        sn: sn,
+        una: una,
+        len: len,
+    };
+    *out = h.bytes();
+}
+
+// The numbers of the header in `bytes`, in the order of the layout, put into `out`.
+#[no_mangle]
+pub extern "C" fn kcp_header_numbers(bytes: &[u8; 24], out: &mut [u32; 8])
+    ensures { λ _. ⌜ now (out .exit) ≡ headerNumbers (headerAt (now (bytes .entry)) 0) ⌝ }
+{
+    let h = wire::read_header(bytes, 0);
+    *out = [
+        h.conv,
+        h.cmd as u32,
+        h.frg as u32,
+        h.wnd as u32,
+        h.ts,
+        h.sn,
+        h.una,
+        h.len,
+    ];
+}
+
+// The estimator srtt, rttval, rto, minrto after one more round trip, of rtt.
+#[no_mangle]
+pub extern "C" fn kcp_measured(e: &mut [u32; 4], rtt: u32, interval: u32)
+    ensures { λ _. ⌜ now (e .exit) ≡ estimatorNumbers (measured (estimator (now (e .entry))) rtt interval) ⌝ }
+{
+    let before = Estimator {
+        srtt: e[0],
+        rttval: e[1],
+        rto: e[2],
+        minrto: e[3],
+    };
+    let r = before.measured(rtt, interval);
+    *e = [r.srtt, r.rttval, r.rto, r.minrto];
 }

@@ -165,7 +165,8 @@ macro_rules! rust_side {
                     C::Estimate(e, interval, rtt) => $name::estimate(*e, *interval, *rtt),
                     C::Encode(h, len) => {
                         out.buffer = $name::encode(h, *len);
-                        A::Nothing
+                        let n = [h.conv, h.cmd as u32, h.frg as u32, h.wnd as u32, h.ts, h.sn, h.una, *len];
+                        A::Numbers(n.iter().map(|x| *x as u64).collect())
                     }
                     _ => A::Panicked,
                 };

@@ -1,4 +1,5 @@
 //! The port as a side: its lent memory, and the exported functions of `kcp_c` as they come.
 
+pub mod exports;
+pub mod joined;
 pub mod memory;
-pub mod through;

@@ -6,7 +6,8 @@ use driver::run::{replay, run, Finding, Plan};
 use driver::shrink::shrink;
 use driver::side::Side;
 use driver::{rust_side, Judge};
-use port::through::Through;
+use port::exports::HAS;
+use port::joined::Joined;
 use std::io::{self, Write};
 use std::process::exit;
 use std::time::Instant;
@@ -26,10 +27,12 @@ struct Wanted {
     /// Says on standard error how far it is: for a terminal.
     progress: bool,
     rows: bool,
+    /// The other side is the copy of the Rust alone.
+    copy: bool,
 }
 
 fn arguments() -> Wanted {
-    let mut wanted = Wanted { plan: Plan::default(), script: None, brief: false, progress: false, rows: false };
+    let mut wanted = Wanted { plan: Plan::default(), script: None, brief: false, progress: false, rows: false, copy: false };
     let mut words = Vec::new();
     let mut rest = std::env::args().skip(1);
     while let Some(word) = rest.next() {
@@ -37,6 +40,7 @@ fn arguments() -> Wanted {
             "--replay" => wanted.script = Some(rest.next().unwrap_or_else(|| usage("--replay wants a file"))),
             "--profile" => wanted.plan.profile = Some(profile(rest.next())),
             "--brief" => wanted.brief = true,
+            "--copy" => wanted.copy = true,
             "--rows" => wanted.rows = true,
             "--progress" => wanted.progress = true,
             w if w.starts_with('-') => usage(&format!("unknown option '{}'", w)),
@@ -71,6 +75,13 @@ fn profile(word: Option<String>) -> driver::generator::Profile {
     }
 }
 
+fn sides(wanted: &Wanted) -> String {
+    if wanted.copy || HAS.is_empty() {
+        return "a copy of the Rust".to_string();
+    }
+    format!("the port for {}; a copy of the Rust for the rest", HAS.join(", "))
+}
+
 fn read_script(path: &str) -> Vec<Call> {
     let text = std::fs::read_to_string(path).unwrap_or_else(|e| usage(&format!("cannot read {}: {}", path, e)));
     let mut calls = Vec::new();
@@ -84,8 +95,8 @@ fn read_script(path: &str) -> Vec<Call> {
     calls
 }
 
-fn other() -> Box<dyn Side> {
-    Box::new(Through::new(Copy::default()))
+fn other(wanted: &Wanted) -> Box<dyn Side> {
+    Box::new(Joined::new(Copy::default(), !wanted.copy))
 }
 
 /// Prints the finding as a script that `--replay` takes.
@@ -107,10 +118,13 @@ fn main() {
     if wanted.rows {
         rows();
     }
+    if !wanted.brief {
+        println!("# the other side: {}", sides(&wanted));
+    }
     let (calls, finding) = match &wanted.script {
         Some(path) => {
             let script = read_script(path);
-            replay(&mut Judge::default(), &mut *other(), &script, &wanted.plan.calls)
+            replay(&mut Judge::default(), &mut *other(&wanted), &script, &wanted.plan.calls)
         }
         None => search(&wanted),
     };
@@ -146,7 +160,7 @@ fn search(wanted: &Wanted) -> (u64, Option<Finding>) {
             eprint!("\r{} of {} calls, {} s ", calls, count, seconds);
         }
     };
-    let report = run(&mut Judge::default(), &mut *other(), &wanted.plan, &mut progress);
+    let report = run(&mut Judge::default(), &mut *other(wanted), &wanted.plan, &mut progress);
     if terminal && told > 0 {
         eprintln!();
     }
@@ -156,7 +170,7 @@ fn search(wanted: &Wanted) -> (u64, Option<Finding>) {
                 eprintln!("a difference after {} calls; looking for the shortest sequence that shows it", report.calls);
             }
             let calls = &wanted.plan.calls;
-            Some(shrink(finding, 20, &mut |script| replay(&mut Judge::default(), &mut *other(), script, calls).1))
+            Some(shrink(finding, 20, &mut |script| replay(&mut Judge::default(), &mut *other(wanted), script, calls).1))
         }
         other => other,
     };
