@@ -1,7 +1,7 @@
 // Arithmetic modulo 2^32, 2^16 and 2^64, the signed difference of two times, and the number tests of a push.
 ghost use mathlib.Core.Path.{_≡_};
 ghost use Prim.Native.Nat.{min, max};
-ghost use Rattle.serial.specs.Wrap.{add32, sub32, mul32, add16, add64, low16, timediff, notBefore, after};
+ghost use Rattle.serial.specs.Wrap.{add32, sub32, mul32, add16, add64, mul64, low16, timediff, notBefore, after};
 ghost use Rattle.serial.specs.Window.{distance, inWindow, acknowledged};
 
 // a + b modulo 2^32.
@@ -42,6 +42,18 @@ pub fn add64(a: u64, b: u64) -> u64
     ensures { λ r. ⌜ r ≡ add64 a b ⌝ }
 {
     std::num::wrapping_add_u64(a, b)
+}
+
+// a · b modulo 2^64, by way of the products of the halves; that of the two high ones is a multiple of 2^64.
+pub fn mul64(a: u64, b: u64) -> u64
+    ensures { λ r. ⌜ r ≡ mul64 a b ⌝ }
+{
+    let high_a = a / 0x1_0000_0000;
+    let low_a = a % 0x1_0000_0000;
+    let high_b = b / 0x1_0000_0000;
+    let low_b = b % 0x1_0000_0000;
+    let cross = add64(high_a * low_b, low_a * high_b);
+    add64(low_a * low_b, cross % 0x1_0000_0000 * 0x1_0000_0000)
 }
 
 // A cast to u16: the low 16 bits are kept.

@@ -21,7 +21,8 @@ use Rattle.wire.proofs.LittleEndian.{number-leBytes}
 module _ (s : List ℕ) (short : length s < 24) where
   pub got-short : (field : Header → ℕ) → Got field s ShortHeader
   unfolding got shortHeader
-  got-short field = let t = lt-ltb (length s) 24 short in record { answer = sym (pick-true _ _ t); refusal = sym (pick-true _ _ t) }
+  got-short field =
+      let t = lt-ltb (length s) 24 short in record { answer = sym (pick-true _ _ t); refusal = sym (pick-true _ _ t); values = sym (pick-true _ _ t) }
 
   pub set-short : (conv : ℕ) → ConvSet s conv PutShortHeader s
   unfolding putOf shortHeader withConv
@@ -31,7 +32,13 @@ module _ (s : List ℕ) (short : length s < 24) where
 module _ (s : List ℕ) (whole : 24 ≤ length s) where
   pub got-whole : (field : Header → ℕ) {n : ℕ} → n ≡ field (headerAt s 0) → Got field s (Is n)
   unfolding got shortHeader
-  got-whole field e = let t = le-ltb (length s) 24 whole in record { answer = ap Is e ∙ sym (pick-false _ _ t); refusal = sym (pick-false _ _ t) }
+  got-whole field e =
+      let t = le-ltb (length s) 24 whole in
+      record {
+        answer = ap Is e ∙ sym (pick-false _ _ t);
+        refusal = sym (pick-false _ _ t);
+        values = ap (λ (n : ℕ). n ∷ []) e ∙ sym (pick-false _ _ t);
+      }
 
   pub set-whole : (conv : ℕ) (w : Four) → Split conv w → ConvSet s conv Done (set (set (set (set s 0 (w .b0)) 1 (w .b1)) 2 (w .b2)) 3 (w .b3))
   unfolding putOf shortHeader withConv

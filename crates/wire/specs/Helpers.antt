@@ -1,7 +1,7 @@
 -- "16 | ShortHeader | header helpers on under 24 bytes | all as it was".
 -- Assumes nothing.
 use Prim.Native.Nat.{ℕ}
-use mathlib.Core.Path.{_≡_, sym, _∙_}
+use mathlib.Core.Path.{_≡_}
 use mathlib.Core.List.{List, [], _∷_, _++_}
 use lib.Dec.{ltb}
 use lib.ListN.{length, drop}
@@ -18,7 +18,7 @@ use Rattle.wire.specs.Header.{headerAt}
 unfoldable pub shortHeader : List ℕ → ℕ
 shortHeader s = pick (ltb (length s) 24) 16 0
 
--- the number and the values of each answer
+-- the number of each answer, 0 where nothing is refused, and its values
 abbrev pub numberOf : Number → ℕ
 numberOf (Is n) = 0
 numberOf ShortHeader = 16
@@ -27,6 +27,7 @@ abbrev pub valuesOf : Number → List ℕ
 valuesOf (Is n) = n ∷ []
 valuesOf ShortHeader = []
 
+-- neither answer of a helper that sets carries a value
 abbrev pub numberOfPut : Put → ℕ
 numberOfPut Done = 0
 numberOfPut PutShortHeader = 16
@@ -39,6 +40,7 @@ got field s = pick (ltb (length s) 24) ShortHeader (Is (field (headerAt s 0)))
 pub record Got (field : Header → ℕ) (s : List ℕ) (r : Number) : Type 0 where
   pub answer : r ≡ got field s
   pub refusal : numberOf r ≡ shortHeader s
+  pub values : valuesOf r ≡ pick (ltb (length s) 24) [] (field (headerAt s 0) ∷ [])
 
 -- the bytes of conv at the front, and every other byte as it was; "all as it was" where refused
 unfoldable pub withConv : List ℕ → ℕ → List ℕ

@@ -7,6 +7,7 @@ ghost use Rattle.wire.specs.LittleEndian.{number, leAt, Split};
 ghost use Rattle.wire.specs.Header.{headerAt, headerBytes, convOf, snOf};
 ghost use Rattle.wire.specs.Helpers.{Got, ConvSet};
 
+// cmd: push, ack, window ask and window tell.
 pub const PUSH: u8 = 81;
 
 pub const ACK: u8 = 82;
@@ -15,6 +16,7 @@ pub const ASK: u8 = 83;
 
 pub const TELL: u8 = 84;
 
+// The bytes of a header.
 pub const OVERHEAD: usize = 24;
 
 pub struct Header {

@@ -53,7 +53,14 @@ returns : tie.Need-returns
 unfolding headerAt
 returns c =
     let b = c .before .before .before .before in
-    rw (b .before .before .before .word .ensures, b .half .ensures, c .before .before .before .word2 .ensures, c .before .before .word3 .ensures, c .before .word4 .ensures, c .word5 .ensures)
+    rw (
+      b .before .before .before .word .ensures,
+      b .half .ensures,
+      c .before .before .before .word2 .ensures,
+      c .before .before .word3 .ensures,
+      c .before .word4 .ensures,
+      c .word5 .ensures,
+    )
 
 pub read-header-spec : {M : Type 1} → statement M
 read-header-spec =

@@ -35,7 +35,12 @@ returns : tie.Need-returns
 returns c =
     let s = c .before .before .before .before .before .before .args .s .now in
     let at = c .before .before .before .before .before .before .args .at in
-    c .join4 .ensures ∙ sym (rw (leAt-suc s 3 at (at + 1) (omega arith) (omega arith), leAt-suc s 2 (at + 1) (at + 2) (omega arith) (omega arith), leAt-suc s 1 (at + 2) (at + 3) (omega arith) (omega arith), leAt-suc s 0 (at + 3) (at + 4) (omega arith) (omega arith)))
+    c .join4 .ensures ∙ sym (rw (
+      leAt-suc s 3 at (at + 1) (omega arith) (omega arith),
+      leAt-suc s 2 (at + 1) (at + 2) (omega arith) (omega arith),
+      leAt-suc s 1 (at + 2) (at + 3) (omega arith) (omega arith),
+      leAt-suc s 0 (at + 3) (at + 4) (omega arith) (omega arith),
+    ))
 
 pub word-spec : {M : Type 1} → statement M
 word-spec =

@@ -39,7 +39,14 @@ returns-2 : tie.Need-returns-2
 unfolding measured
 returns-2 c =
     c .timed2 .ensures
-    ∙ rw (c .before .greatest .ensures, c .before .before .add2 .ensures, c .before .before .before .mul2 .ensures, c .before .before .before .before .add .ensures, c .before .before .before .before .before .apart .ensures, c .before .before .before .before .before .before .mul .ensures)
+    ∙ rw (
+      c .before .greatest .ensures,
+      c .before .before .add2 .ensures,
+      c .before .before .before .mul2 .ensures,
+      c .before .before .before .before .add .ensures,
+      c .before .before .before .before .before .apart .ensures,
+      c .before .before .before .before .before .before .mul .ensures,
+    )
     (sym (pick-false _ _ (ne-eqb _ _ (c .before .before .before .before .before .before .before .if1 .left))))
 
 pub measured-spec : {M : Type 1} → statement M
