@@ -1,0 +1,81 @@
+use native.Mathlib.Omega.{arith}
+use Prim.Native.Nat.{ℕ, _+_, _-_, _*_, _/_, _%_, _≤_, _<_}
+use mathlib.Core.Path.{_≡_, refl, sym, ap, _∙_}
+use lib.ListN.{length, take, drop, getD, set, length-set}
+use Rattle.slots.specs.Entries.{faults, fault}
+use Rattle.slots.proofs.Totals.{faults-more, fault-le, faults-empty}
+use Rattle.slots.proofs.faults_in.Statement.{statement}
+use Rattle.slots.proofs.faults_in.Tie as tie
+use Rattle.slots.proofs.faults_in.Reads as reads
+use Rattle.slots.proofs.faults_in.Lts as lts
+use Rattle.slots.proofs.fault_of.Reads as fault-of-reads
+
+abbrev Inv-loop : tie.InvT-loop
+Inv-loop order n slots bad₀ i₀ bad i = (i ≤ n) × ((bad ≤ i) × (bad ≡ faults slots (take i order)))
+
+abbrev μ-loop : tie.MeasureT-loop
+μ-loop order n slots bad₀ i₀ bad i = n - i
+
+-- src/lib.rt:167:5
+loop-holds : tie.Need-loop-holds Inv-loop μ-loop
+loop-holds c = (omega arith, (omega arith, sym (faults-empty (c .before .args .slots))))
+
+-- src/lib.rt:168:25
+mul-fault-of : tie.Need-mul-fault-of Inv-loop μ-loop
+mul-fault-of c = omega arith
+
+-- src/lib.rt:168:25
+shared-slice-read-fault-of : tie.Need-shared-slice-read-fault-of Inv-loop μ-loop
+shared-slice-read-fault-of c = omega arith
+
+-- src/lib.rt:168:16
+fault-of-requires : tie.Need-fault-of-requires Inv-loop μ-loop
+fault-of-requires c κs = omega arith
+
+-- src/lib.rt:168:9
+add-bad : tie.Need-add-bad Inv-loop μ-loop
+add-bad c =
+    let args = c .before .before .before .before .before .args in
+    let e = c .fault-of .ensures in
+    let b = fault-le (args .slots) (getD (args .order .now) (c .before .before .before .loop .i) 0) in
+    omega arith
+
+-- src/lib.rt:169:9
+add-i : tie.Need-add-i Inv-loop μ-loop
+add-i c = omega arith
+
+-- src/lib.rt:167:5
+loop-less : tie.Need-loop-less Inv-loop μ-loop
+loop-less c = omega arith
+
+-- src/lib.rt:167:5
+loop-again : tie.Need-loop-again Inv-loop μ-loop
+loop-again c =
+    let at-loop = c .before .before .before in
+    let args = at-loop .before .before .args in
+    let e = c .fault-of .ensures in
+    let b = fault-le (args .slots) (getD (args .order .now) (at-loop .loop .i) 0) in
+    let m = faults-more (args .slots) (args .order .now) (at-loop .loop .i) (omega arith) in
+    omega arith
+
+-- src/lib.rt:160:1
+returns : tie.Need-returns Inv-loop μ-loop
+returns c =
+    let e : c .before .loop .i ≡ c .before .before .before .args .n = omega arith in
+    rw e at (c .before .loop .inv .1 .1)
+
+pub faults-in-spec : {M : Type 1} → statement M
+faults-in-spec =
+    tie.close
+    (tie.spec
+    Inv-loop
+    μ-loop
+    loop-holds
+    mul-fault-of
+    shared-slice-read-fault-of
+    fault-of-requires
+    add-bad
+    add-i
+    loop-less
+    loop-again
+    returns)

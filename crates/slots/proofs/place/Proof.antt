@@ -1,0 +1,62 @@
+use Rattle.slots.specs.Pool.{lists}
+use Rattle.slots.proofs.Pools.{placed-by}
+use borrow.Author.Needs.{needs}
+use Rattle.slots.proofs.place.Statement.{statement}
+use Rattle.slots.proofs.place.Tie as tie
+use Rattle.slots.proofs.place.Reads as reads
+use Rattle.slots.proofs.place.Lts as lts
+use Rattle.slots.proofs.entry_of.Reads as entry-of-reads
+use Rattle.slots.proofs.put_in.Reads as put-in-reads
+use Rattle.slots.proofs.put_payload.Reads as put-payload-reads
+use Rattle.slots.proofs.put_record.Reads as put-record-reads
+
+-- src/lib.rt:307:5
+put-record-requires : tie.Need-put-record-requires
+put-record-requires c κs = search needs
+
+-- src/lib.rt:308:5
+put-payload-requires : tie.Need-put-payload-requires
+put-payload-requires c κs = search needs
+
+-- src/lib.rt:309:26
+entry-of-requires : tie.Need-entry-of-requires
+entry-of-requires c κs = search needs
+
+-- src/lib.rt:309:5
+put-in-requires : tie.Need-put-in-requires
+put-in-requires c κs = search needs
+
+-- src/lib.rt:287:1
+same-length : tie.Need-same-length
+same-length c = search needs
+
+-- src/lib.rt:287:1
+same-length-2 : tie.Need-same-length-2
+same-length-2 c = search needs
+
+-- src/lib.rt:287:1
+same-length-3 : tie.Need-same-length-3
+same-length-3 c = search needs
+
+-- src/lib.rt:287:1
+returns : tie.Need-returns
+returns c =
+    let args = c .before .before .before .before .before .before .before .before .before .before .before .before .before .before .before .before .before .before .args in
+    let e = c .before .before .put-in .ensures in
+    placed-by (lists (args .order .now) (args .records .now) (args .room .now)) _ _ _ (args .n) (args .at) (args .slot) (args .numbers .now) (args .src .now)
+    (rw (c .before .before .before .entry-of .ensures) at e)
+    (c .before .before .before .before .before .before .before .before .before .before .before .put-record .ensures)
+    (c .before .before .before .before .before .before .before .put-payload .ensures)
+
+pub place-spec : {M : Type 1} → statement M
+place-spec =
+    tie.close
+    (tie.spec
+    put-record-requires
+    put-payload-requires
+    entry-of-requires
+    put-in-requires
+    same-length
+    same-length-2
+    same-length-3
+    returns)
