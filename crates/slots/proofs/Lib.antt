@@ -6,3 +6,4 @@ pub mod Totals
 pub mod Free
 pub mod Marking
 pub mod Pools
+pub mod Regions

@@ -43,7 +43,7 @@ getD-removed-hi (x ∷ l) zero k h = refl
 getD-removed-hi (x ∷ l) (suc i) zero h = absurd (not-suc-le-zero h)
 getD-removed-hi (x ∷ l) (suc i) (suc k) h = getD-removed-hi l i k (le-of-suc-le-suc h)
 
-pub length-removed : (l : List ℕ) (i : ℕ) → i < length l → suc (length (removed l i)) ≡ length l
+pub length-removed : {A : Type 0} (l : List A) (i : ℕ) → i < length l → suc (length (removed l i)) ≡ length l
 unfolding removed
 length-removed [] i h = absurd (not-suc-le-zero h)
 length-removed (x ∷ l) zero h = refl

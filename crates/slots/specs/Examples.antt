@@ -4,11 +4,11 @@ use mathlib.Core.Bool.{Bool, true, false}
 use mathlib.Core.Path.{_≡_, refl}
 use mathlib.Core.List.{List, [], _∷_}
 use lib.ListN.{length, replicate}
-use Rattle.slots.specs.Order.{inserted, removed, total}
+use Rattle.slots.specs.Order.{inserted, removed, region, total}
 use Rattle.slots.specs.Entries.{entryOf, slotOf, lengthOf, inSlot, uses, fault, faults, freeFrom, freeSlot}
 use Rattle.slots.specs.Marks.{marked, repeats, firstFree}
 use Rattle.slots.specs.Records.{put, part}
-use Rattle.slots.specs.Pool.{Lists, lists, Stored, segment, stands, view, numbersAt, lengthsAt, fits, tested, placed, takenOut, dropped, filled}
+use Rattle.slots.specs.Pool.{Lists, lists, Stored, segment, stands, view, numbersAt, lengthsAt, fits, tested, placed, takenOut, dropped, filled, renewed}
 
 -- three slots of two numbers, all free; the last two entries are stale
 empty : Lists
@@ -24,15 +24,15 @@ unfolding both placed inserted put empty
 entries = refl
 
 seen : view 2 both 0 2 ≡ segment (8 ∷ 9 ∷ []) (4 ∷ []) ∷ segment (5 ∷ 6 ∷ []) (1 ∷ 2 ∷ 3 ∷ []) ∷ []
-unfolding both view stands part placed inserted put empty
+unfolding both region stands part placed inserted put empty
 seen = refl
 
 seconds : numbersAt 2 both 1 0 2 ≡ 9 ∷ 6 ∷ []
-unfolding both numbersAt placed inserted put empty
+unfolding both region placed inserted put empty
 seconds = refl
 
 sizes : lengthsAt both 0 2 ≡ 1 ∷ 3 ∷ []
-unfolding both lengthsAt placed inserted put empty
+unfolding both region placed inserted put empty
 sizes = refl
 
 well : fits 2 2 both ≡ true
@@ -61,13 +61,17 @@ unfolding firstFree
 first = refl
 
 without : view 2 (takenOut 2 both 0) 0 1 ≡ segment (5 ∷ 6 ∷ []) (1 ∷ 2 ∷ 3 ∷ []) ∷ []
-unfolding both takenOut removed view stands part placed inserted put empty
+unfolding both takenOut removed region stands part placed inserted put empty
 without = refl
 
 rest : view 2 (dropped 2 both 1) 0 1 ≡ segment (5 ∷ 6 ∷ []) (1 ∷ 2 ∷ 3 ∷ []) ∷ []
-unfolding both dropped view stands part placed inserted put empty
+unfolding both dropped region stands part placed inserted put empty
 rest = refl
 
 more : view 2 (filled both 0 (7 ∷ [])) 0 1 ≡ segment (8 ∷ 9 ∷ []) (4 ∷ 7 ∷ []) ∷ []
-unfolding both filled view stands part placed inserted put empty
+unfolding both filled region stands part placed inserted put empty
 more = refl
+
+other : view 2 (renewed 2 both 1 1 (3 ∷ [])) 0 2 ≡ segment (8 ∷ 9 ∷ []) (4 ∷ []) ∷ segment (5 ∷ 3 ∷ []) (1 ∷ 2 ∷ 3 ∷ []) ∷ []
+unfolding both renewed region stands part placed inserted put empty
+other = refl

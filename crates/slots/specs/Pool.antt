@@ -3,10 +3,10 @@
 use Prim.Native.Nat.{ℕ, _+_, _-_, _*_, _≤_, _<_}
 use mathlib.Core.Bool.{Bool, true, false, _&&_}
 use mathlib.Core.Path.{_≡_}
-use mathlib.Core.List.{List, [], _∷_, _++_, map}
+use mathlib.Core.List.{List, [], _∷_, _++_}
 use lib.ListN.{length, take, drop, getD, set}
 use lib.Dec.{eqb, leb}
-use Rattle.slots.specs.Order.{inserted, removed}
+use Rattle.slots.specs.Order.{inserted, removed, region}
 use Rattle.slots.specs.Entries.{entryOf, slotOf, lengthOf, pick, uses, faults}
 use Rattle.slots.specs.Marks.{marked}
 use Rattle.slots.specs.Records.{stored, loaded, numberAt}
@@ -33,15 +33,15 @@ unfoldable pub stands : ℕ → Lists → ℕ → Stored
 stands w p e = segment (loaded w (p .records) (slotOf e) 0 w) (loaded 1476 (p .room) (slotOf e) 0 (lengthOf e))
 
 -- what stands in the `count` entries from index `from` of the order on
-unfoldable pub view : ℕ → Lists → ℕ → ℕ → List Stored
-view w p from count = map (stands w p) (take count (drop from (p .order)))
+abbrev pub view : ℕ → Lists → ℕ → ℕ → List Stored
+view w p from count = region (stands w p) (p .order) from count
 
 -- number k of each of them, and the length of each payload
-unfoldable pub numbersAt : ℕ → Lists → ℕ → ℕ → ℕ → List ℕ
-numbersAt w p k from count = map (λ (e : ℕ). numberAt w (p .records) (slotOf e) k) (take count (drop from (p .order)))
+abbrev pub numbersAt : ℕ → Lists → ℕ → ℕ → ℕ → List ℕ
+numbersAt w p k from count = region (λ (e : ℕ). numberAt w (p .records) (slotOf e) k) (p .order) from count
 
-unfoldable pub lengthsAt : Lists → ℕ → ℕ → List ℕ
-lengthsAt p from count = map lengthOf (take count (drop from (p .order)))
+abbrev pub lengthsAt : Lists → ℕ → ℕ → List ℕ
+lengthsAt p from count = region lengthOf (p .order) from count
 
 -- well formed with n slots in use: they are slots of the pool and no two the same, each length fits, and the lists are as long as they have to be
 pub record Pool (w n : ℕ) (p : Lists) : Type 0 where
@@ -93,8 +93,16 @@ dropped n p k = lists (orderFrom (p .order) n k) (p .records) (p .room)
 abbrev pub longer : ℕ → ℕ → ℕ
 longer e n = entryOf (slotOf e) (lengthOf e + n)
 
+-- a segment once the bytes x stand behind its payload
+abbrev pub grown : Stored → List ℕ → Stored
+grown s x = segment (s .numbers) (s .payload ++ x)
+
 -- the bytes x are put behind the payload of the entry at place i
 unfoldable pub filled : Lists → ℕ → List ℕ → Lists
 filled p i x =
     lists (set (p .order) i (longer (getD (p .order) i 0) (length x))) (p .records)
     (stored 1476 (p .room) (slotOf (getD (p .order) i 0)) (lengthOf (getD (p .order) i 0)) x)
+
+-- the numbers x are put into the record of the entry at place i, from its number k on
+unfoldable pub renewed : ℕ → Lists → ℕ → ℕ → List ℕ → Lists
+renewed w p i k x = lists (p .order) (stored w (p .records) (slotOf (getD (p .order) i 0)) k x) (p .room)

@@ -157,7 +157,7 @@ fn fault_of(entry: u32, slots: u32) -> u32
 }
 
 // How many of the first n entries name no slot, or a length that does not fit it.
-pub fn faults_in(order: &[u32], n: usize, slots: u32) -> u32
+fn faults_in(order: &[u32], n: usize, slots: u32) -> u32
     requires { ⌜ n ≤ length (now order) ⌝ }
     requires { ⌜ n ≤ 65535 ⌝ }
     ensures { λ r. ⌜ r ≡ faults slots (take n (now (order .entry))) ⌝ }
@@ -172,7 +172,7 @@ pub fn faults_in(order: &[u32], n: usize, slots: u32) -> u32
 }
 
 // Whether the sizes agree and no entry of the first n is at fault; two may still name one slot.
-pub fn fitting(order: &[u32], records: &[u32], room: &[u8], width: usize, n: usize) -> bool
+fn fitting(order: &[u32], records: &[u32], room: &[u8], width: usize, n: usize) -> bool
     requires { ⌜ width ≤ 64 ⌝ }
     ensures { λ r. ⌜ r ≡ fits width n (lists (now (order .entry)) (now (records .entry)) (now (room .entry))) ⌝ }
 {
@@ -193,7 +193,7 @@ pub fn fitting(order: &[u32], records: &[u32], room: &[u8], width: usize, n: usi
 }
 
 // Marks the slot of each of the first n entries, and adds up the marks that stood there when its turn came.
-pub fn mark(order: &[u32], n: usize, marks: &mut [u8]) -> usize
+fn mark(order: &[u32], n: usize, marks: &mut [u8]) -> usize
     requires { ⌜ n ≤ length (now order) ⌝ }
     requires { ⌜ n ≤ 65535 ⌝ }
     requires { ⌜ ((i : ℕ) → i < n → slotOf (getD (now order) i 0) < length (now marks)) ⌝ }
