@@ -7,3 +7,4 @@ pub mod Free
 pub mod Marking
 pub mod Pools
 pub mod Regions
+pub mod Views

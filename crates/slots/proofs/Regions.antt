@@ -6,7 +6,7 @@ use native.Mathlib.Nat.{le-of-suc-le-suc, not-suc-le-zero, zero-add}
 use native.Mathlib.Numerals.{add-one}
 use mathlib.Core.List.{List, [], _∷_, _++_, append-assoc, map}
 use lib.ListN.{length, take, drop, getD, set, length-append, length-drop, length-map, take-append-drop}
-use lib.Seq.{take-at, drop-at, take-append-le, drop-append-le, take-append-add, drop-append-add, drop-drop, length-take-le, take-add, take-take, getD-take, getD-drop, take-set-le, take-set-lt, drop-set-lt, drop-set-add}
+use lib.Seq.{take-at, drop-at, take-append-le, drop-append-le, take-append-add, drop-append-add, drop-drop, length-take-le, take-add, take-take, getD-take, getD-drop, take-set-le, take-set-lt, drop-set-lt, drop-set-add, set-getD}
 use Rattle.slots.specs.Order.{removed, inserted, region}
 use Rattle.slots.proofs.Moves.{length-removed, drop-take}
 
@@ -111,13 +111,25 @@ module _ {B : Type 0} (f : ℕ → B) (l : List ℕ) where
   region-drop from count n h k =
       rw (← map-drop f n (take count (drop from l)), drop-take (drop from l) n count h (rw length-drop (omega arith)), drop-drop)
 
--- what is the same of each of the first n entries
-pub region-same : {B : Type 0} (f g : ℕ → B) (l : List ℕ) (n from count : ℕ) → from + count ≤ n → n ≤ length l
-    → ((i : ℕ) → i < n → f (getD l i 0) ≡ g (getD l i 0)) → region f l from count ≡ region g l from count
-unfolding region
-region-same f g l n from count h k s =
-    let e = piece f l from count (omega arith) in
-    map-same f g (take count (drop from l)) (λ i q. rw (getD-take count (drop from l) i 0 (omega arith), getD-drop from l i 0) (s (from + i) (omega arith)))
+-- what is the same of each entry of the region, and of each but for the one at place j
+module _ {B : Type 0} (f g : ℕ → B) (l : List ℕ) (from count : ℕ) (k : from + count ≤ length l) where
+  pub region-same : ((i : ℕ) → i < count → f (getD l (from + i) 0) ≡ g (getD l (from + i) 0)) → region f l from count ≡ region g l from count
+  unfolding region
+  region-same s =
+      let e = piece f l from count k in
+      map-same f g (take count (drop from l)) (λ i q. rw (getD-take count (drop from l) i 0 (omega arith), getD-drop from l i 0) (s i (omega arith)))
+
+  pub region-but : (j : ℕ) (z : B) → ((i : ℕ) → i < count → (i ≡ j → ⊥) → f (getD l (from + i) 0) ≡ g (getD l (from + i) 0))
+      → set (region f l from count) j z ≡ set (region g l from count) j z
+  unfolding region
+  region-but j z s =
+      let e = piece f l from count k in
+      map-but f g (take count (drop from l)) j z (λ i q d. rw (getD-take count (drop from l) i 0 (omega arith), getD-drop from l i 0) (s i (omega arith) d))
+
+  pub region-one : (j : ℕ) → j < count → ((i : ℕ) → i < count → (i ≡ j → ⊥) → f (getD l (from + i) 0) ≡ g (getD l (from + i) 0))
+      → region f l from count ≡ set (region g l from count) j (f (getD l (from + j) 0))
+  region-one j h s =
+      sym (set-getD (region f l from count) j (f 0)) ∙ rw (region-at f l from count k j (f 0) h) (region-but j (f (getD l (from + j) 0)) s)
 
 -- the region of a list in three parts
 middle : {B : Type 0} (f : ℕ → B) (x y z e : List ℕ) (from count : ℕ) → length x ≡ from → length y ≡ count → region f ((x ++ (y ++ z)) ++ e) from count ≡ map f y

@@ -7,9 +7,9 @@ use native.Mathlib.Numerals.{add-one}
 use native.Mathlib.Decide.{decLt}
 use mathlib.Core.List.{List, [], _∷_, _++_, append-assoc, append-nil}
 use lib.ListN.{length, take, drop, getD, set, length-append, length-drop, take-append-drop, drop-of-length-le}
-use lib.Seq.{drop-cons, set-split, append-snoc, take-at, drop-at, take-append-le, drop-append-le, drop-append-add, drop-drop, take-add, length-take-le, take-length, getD-take, getD-drop, paste, paste-zero, paste-suc, take-all, drop-length}
+use lib.Seq.{drop-cons, set-split, append-snoc, take-at, drop-at, take-append-le, drop-append-le, drop-append-add, drop-drop, take-add, length-take-le, take-length, getD-take, getD-drop, paste, paste-zero, paste-suc, take-all, drop-length, take-take}
 use borrow.Rule.Slice.PartAt.{part-to-end}
-use Rattle.slots.proofs.Moves.{mixed, mixed-more}
+use Rattle.slots.proofs.Moves.{mixed, mixed-more, drop-take}
 use Rattle.slots.specs.Records.{put, part, stored, loaded, numberAt}
 
 pub put-length : (l : List ℕ) (at : ℕ) (x : List ℕ) → at + length x ≤ length l → length (put l at x) ≡ length l
@@ -93,6 +93,24 @@ module _ (w : ℕ) (l : List ℕ) (s k : ℕ) (x : List ℕ) (inside : k + lengt
         part-before l (s * w + k) x (s * w + 0) k (omega arith) (omega arith),
         e,
         loaded-own,
+      )
+
+  -- the whole slot
+  pub loaded-put : loaded w (stored w l s k x) s 0 w ≡ put (loaded w l s 0 w) k x
+  unfolding put part
+  loaded-put =
+      let n = length x in
+      let a : s * w + 0 + k ≡ s * w + k = omega arith in
+      let b : w ≡ k + n + (w - (k + n)) = omega arith in
+      let c : s * w + 0 + (k + n) ≡ s * w + k + n = omega arith in
+      ap (part (stored w l s k x) (s * w + 0)) b
+      ∙ part-part (stored w l s k x) (s * w + 0) (k + n) (w - (k + n))
+      ∙ rw (
+        loaded-joined,
+        part-after l (s * w + k) x (s * w + 0 + (k + n)) (w - (k + n)) (omega arith) (omega arith),
+        take-take k w (drop (s * w + 0) l) (omega arith),
+        drop-take (drop (s * w + 0) l) (k + n) w (omega arith) (rw length-drop (omega arith)),
+        drop-drop,
       )
 
 -- number j of a record
