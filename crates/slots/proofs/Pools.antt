@@ -4,14 +4,14 @@ use Prim.Native.Nat.{ℕ, zero, suc, _+_, _-_, _*_, _≤_, _<_}
 use native.Mathlib.Omega.{arith}
 use mathlib.Core.Bool.{Bool, true, false, _&&_}
 use mathlib.Core.List.{List, [], _∷_, _++_}
-use lib.ListN.{length, take, drop, getD, replicate}
+use lib.ListN.{length, take, drop, getD, set, replicate}
 use lib.Seq.{length-take-le, getD-take}
 use lib.Dec.{eqb, leb}
 use borrow.Author.Tests.{eq-eqb, le-leb, leb-true, eqb-true}
 use Rattle.slots.specs.Entries.{entryOf, slotOf, lengthOf, uses, faults, freeSlot}
 use Rattle.slots.specs.Marks.{marked, repeats, firstFree}
 use Rattle.slots.specs.Records.{stored}
-use Rattle.slots.specs.Pool.{Lists, lists, segment, Pool, fits, tested, orderIn, placed}
+use Rattle.slots.specs.Pool.{Lists, lists, segment, Pool, fits, tested, orderIn, orderOut, orderFrom, placed, takenOut, dropped, longer, filled, renewed}
 use Rattle.slots.proofs.Totals.{slots-below}
 use Rattle.slots.proofs.Marking.{none-twice, none-repeated, first-lowest}
 
@@ -102,9 +102,31 @@ module _ (w n : ℕ) (p : Lists) where
       let e = length-take-le n (p .order) (x .many) in
       rw (tested-marks (replicate k 0) x) (first-lowest k (length (p .order)) (take n (p .order)) j (omega arith))
 
--- ---- what the calls of `place` leave
+-- ---- what the functions leave is what the memory functions say
 
-pub placed-by : (p : Lists) (o k r : List ℕ) (n i s : ℕ) (x y : List ℕ) → o ≡ orderIn (p .order) n i (entryOf s (length y))
-    → k ≡ stored (length x) (p .records) s 0 x → r ≡ stored 1476 (p .room) s 0 y → lists o k r ≡ placed (length x) n p i s (segment x y)
-unfolding placed
-placed-by p o k r n i s x y e f g = rw (e, f, g)
+module _ (p : Lists) (o k r : List ℕ) (i : ℕ) where
+  -- `place`
+  pub placed-by : (n s : ℕ) (x y : List ℕ) → o ≡ orderIn (p .order) n i (entryOf s (length y)) → k ≡ stored (length x) (p .records) s 0 x → r ≡ stored 1476 (p .room) s 0 y
+      → lists o k r ≡ placed (length x) n p i s (segment x y)
+  unfolding placed
+  placed-by n s x y e f g = rw (e, f, g)
+
+  -- `take_out` and `drop_first`
+  pub taken-by : (n : ℕ) → o ≡ orderOut (p .order) n i → lists o (p .records) (p .room) ≡ takenOut n p i
+  unfolding takenOut
+  taken-by n e = rw e
+
+  pub dropped-by : (n : ℕ) → o ≡ orderFrom (p .order) n i → lists o (p .records) (p .room) ≡ dropped n p i
+  unfolding dropped
+  dropped-by n e = rw e
+
+  -- `fill`
+  pub filled-by : (x : List ℕ) → o ≡ set (p .order) i (longer (getD (p .order) i 0) (length x))
+      → r ≡ stored 1476 (p .room) (slotOf (getD (p .order) i 0)) (lengthOf (getD (p .order) i 0)) x → lists o (p .records) r ≡ filled p i x
+  unfolding filled
+  filled-by x e g = rw (e, g)
+
+  -- `put_record` and `put_number`, at the slot s of the entry at place i
+  pub renewed-by : (w s j : ℕ) (x : List ℕ) → s ≡ slotOf (getD (p .order) i 0) → k ≡ stored w (p .records) s j x → lists (p .order) k (p .room) ≡ renewed w p i j x
+  unfolding renewed
+  renewed-by w s j x e f = rw (← e, f)

@@ -111,6 +111,14 @@ module _ {B : Type 0} (f : ℕ → B) (l : List ℕ) where
   region-drop from count n h k =
       rw (← map-drop f n (take count (drop from l)), drop-take (drop from l) n count h (rw length-drop (omega arith)), drop-drop)
 
+-- the border between front and back moves by n, and no memory with it
+module _ {B : Type 0} (f : ℕ → B) (l : List ℕ) (a b n : ℕ) (h : n ≤ b) where
+  pub border-front : region f l 0 (a + n) ≡ region f l 0 a ++ take n (region f l a b)
+  border-front = rw (region-take f l a b n h, region-joined f l 0 a n, zero-add)
+
+  pub border-back : a + b ≤ length l → region f l (a + n) (b - n) ≡ drop n (region f l a b)
+  border-back k = sym (region-drop f l a b n h k)
+
 -- what is the same of each entry of the region, and of each but for the one at place j
 module _ {B : Type 0} (f g : ℕ → B) (l : List ℕ) (from count : ℕ) (k : from + count ≤ length l) where
   pub region-same : ((i : ℕ) → i < count → f (getD l (from + i) 0) ≡ g (getD l (from + i) 0)) → region f l from count ≡ region g l from count

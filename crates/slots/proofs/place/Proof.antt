@@ -43,7 +43,7 @@ returns : tie.Need-returns
 returns c =
     let args = c .before .before .before .before .before .before .before .before .before .before .before .before .before .before .before .before .before .before .args in
     let e = c .before .before .put-in .ensures in
-    placed-by (lists (args .order .now) (args .records .now) (args .room .now)) _ _ _ (args .n) (args .at) (args .slot) (args .numbers .now) (args .src .now)
+    placed-by (lists (args .order .now) (args .records .now) (args .room .now)) _ _ _ (args .at) (args .n) (args .slot) (args .numbers .now) (args .src .now)
     (rw (c .before .before .before .entry-of .ensures) at e)
     (c .before .before .before .before .before .before .before .before .before .before .before .put-record .ensures)
     (c .before .before .before .before .before .before .before .put-payload .ensures)
