@@ -10,8 +10,9 @@ use lib.Dec.{eqb, leb}
 use borrow.Author.Tests.{eq-eqb, le-leb, leb-true, eqb-true}
 use Rattle.slots.specs.Entries.{entryOf, slotOf, lengthOf, uses, faults, freeSlot}
 use Rattle.slots.specs.Marks.{marked, repeats, firstFree}
-use Rattle.slots.specs.Records.{stored}
-use Rattle.slots.specs.Pool.{Lists, lists, segment, Pool, fits, tested, orderIn, orderOut, orderFrom, placed, takenOut, dropped, longer, filled, renewed}
+use Rattle.lent.specs.Order.{orderIn, orderOut, orderFrom}
+use Rattle.lent.specs.Records.{stored}
+use Rattle.slots.specs.Pool.{Lists, lists, segment, Pool, fits, tested, placed, takenOut, dropped, longer, filled, renewed}
 use Rattle.slots.proofs.Totals.{slots-below}
 use Rattle.slots.proofs.Marking.{none-twice, none-repeated, first-lowest}
 

@@ -10,8 +10,8 @@ use lib.ListN.{length, take, drop, getD, set, take-append-drop}
 use lib.Seq.{drop-cons, take-suc}
 use lib.Dec.{eqb, ltb, leb}
 use borrow.Author.Tests.{eq-eqb, ne-eqb, lt-ltb, le-ltb, le-leb, lt-leb}
-use Rattle.slots.specs.Order.{inserted, removed, total}
-use Rattle.slots.specs.Entries.{entryOf, slotOf, lengthOf, inSlot, uses, fault, faults}
+use Rattle.lent.specs.Order.{inserted, removed}
+use Rattle.slots.specs.Entries.{total, entryOf, slotOf, lengthOf, inSlot, uses, fault, faults}
 
 module _ (f : ℕ → ℕ) where
   pub total-append : (a b : List ℕ) → total f (a ++ b) ≡ total f a + total f b

@@ -4,7 +4,11 @@ use mathlib.Core.Bool.{Bool, true, false, _&&_}
 use mathlib.Core.List.{List, [], _∷_}
 use lib.ListN.{length}
 use lib.Dec.{eqb, ltb, leb}
-use Rattle.slots.specs.Order.{total}
+
+-- the sum of f over l
+unfoldable pub total : (ℕ → ℕ) → List ℕ → ℕ
+total f [] = 0
+total f (x ∷ l) = f x + total f l
 
 abbrev pub entryOf : ℕ → ℕ → ℕ
 entryOf slot size = size * 65536 + slot

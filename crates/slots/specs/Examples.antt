@@ -4,10 +4,10 @@ use mathlib.Core.Bool.{Bool, true, false}
 use mathlib.Core.Path.{_≡_, refl}
 use mathlib.Core.List.{List, [], _∷_}
 use lib.ListN.{length, replicate}
-use Rattle.slots.specs.Order.{inserted, removed, region, total}
-use Rattle.slots.specs.Entries.{entryOf, slotOf, lengthOf, inSlot, uses, fault, faults, freeFrom, freeSlot}
+use Rattle.lent.specs.Order.{inserted, removed, region}
+use Rattle.slots.specs.Entries.{total, entryOf, slotOf, lengthOf, inSlot, uses, fault, faults, freeFrom, freeSlot}
 use Rattle.slots.specs.Marks.{marked, repeats, firstFree}
-use Rattle.slots.specs.Records.{put, part}
+use Rattle.lent.specs.Records.{put, part}
 use Rattle.slots.specs.Pool.{Lists, lists, Stored, segment, stands, view, numbersAt, lengthsAt, fits, tested, placed, takenOut, dropped, filled, renewed}
 
 -- three slots of two numbers, all free; the last two entries are stale

@@ -6,10 +6,10 @@ use mathlib.Core.Path.{_≡_}
 use mathlib.Core.List.{List, [], _∷_, _++_}
 use lib.ListN.{length, take, drop, getD, set}
 use lib.Dec.{eqb, leb}
-use Rattle.slots.specs.Order.{inserted, removed, region}
+use Rattle.lent.specs.Order.{region, orderIn, orderOut, orderFrom}
 use Rattle.slots.specs.Entries.{entryOf, slotOf, lengthOf, pick, uses, faults}
 use Rattle.slots.specs.Marks.{marked}
-use Rattle.slots.specs.Records.{stored, loaded, numberAt}
+use Rattle.lent.specs.Records.{stored, loaded, numberAt}
 
 -- the lists behind a pool's slices
 pub record Lists : Type 0 where
@@ -63,18 +63,6 @@ fits w n p =
 -- the marks m after the test
 unfoldable pub tested : ℕ → ℕ → Lists → List ℕ → List ℕ
 tested w n p m = pick (fits w n p) (marked m (take n (p .order))) m
-
--- the order once entry e is in at place i of the n in use
-abbrev pub orderIn : List ℕ → ℕ → ℕ → ℕ → List ℕ
-orderIn o n i e = inserted (take n o) i e ++ drop (n + 1) o
-
--- the order once the entry at place i of the n is taken out
-abbrev pub orderOut : List ℕ → ℕ → ℕ → List ℕ
-orderOut o n i = removed (take n o) i ++ drop (n - 1) o
-
--- the order once the first k of the n are dropped
-abbrev pub orderFrom : List ℕ → ℕ → ℕ → List ℕ
-orderFrom o n k = drop k (take n o) ++ drop (n - k) o
 
 -- x is put into slot s, and its entry in at place i of the n in use
 unfoldable pub placed : ℕ → ℕ → Lists → ℕ → ℕ → Stored → Lists

@@ -6,8 +6,8 @@ ghost use Prim.Native.Nat.{ℕ, _+_, _-_, _*_, _<_, _≤_};
 ghost use lib.ListN.{length, take, drop, getD, set, replicate};
 ghost use Rattle.slots.specs.Entries.{entryOf, slotOf, lengthOf, fault, faults};
 ghost use Rattle.slots.specs.Marks.{marked, repeats, firstFree};
-ghost use Rattle.slots.specs.Records.{put, part, stored, loaded, numberAt};
-ghost use Rattle.slots.specs.Pool.{lists, segment, Pool, fits, tested, orderIn, orderOut, orderFrom, placed, longer, filled};
+ghost use Rattle.lent.specs.Records.{stored};
+ghost use Rattle.slots.specs.Pool.{lists, segment, Pool, fits, tested, placed, longer};
 
 // The entry of a slot whose payload has the length.
 pub fn entry_of(slot: usize, length: usize) -> u32
@@ -30,117 +30,6 @@ pub fn length_of(entry: u32) -> usize
     ensures { λ r. ⌜ r ≡ lengthOf entry ⌝ }
 {
     (entry / 65536) as usize
-}
-
-// Puts an entry in at place `at` of the first n.
-pub fn put_in(order: &mut [u32], n: usize, at: usize, entry: u32)
-    requires { ⌜ at ≤ n ⌝ }
-    requires { ⌜ n < length (now order) ⌝ }
-    ensures { λ _. ⌜ now (order .exit) ≡ orderIn (now (order .entry)) n at entry ⌝ }
-{
-    let mut i = n;
-    while at < i {
-        order[i] = order[i - 1];
-        i -= 1;
-    }
-    order[at] = entry;
-}
-
-// Takes the entry at place `at` of the first n out.
-pub fn take_out(order: &mut [u32], n: usize, at: usize)
-    requires { ⌜ at < n ⌝ }
-    requires { ⌜ n ≤ length (now order) ⌝ }
-    ensures { λ _. ⌜ now (order .exit) ≡ orderOut (now (order .entry)) n at ⌝ }
-{
-    let last = n - 1;
-    let mut i = at;
-    while i < last {
-        order[i] = order[i + 1];
-        i += 1;
-    }
-}
-
-// Drops the first k of the first n.
-pub fn drop_first(order: &mut [u32], n: usize, k: usize)
-    requires { ⌜ k ≤ n ⌝ }
-    requires { ⌜ n ≤ length (now order) ⌝ }
-    ensures { λ _. ⌜ now (order .exit) ≡ orderFrom (now (order .entry)) n k ⌝ }
-{
-    let m = n - k;
-    let mut i = 0;
-    while i < m {
-        order[i] = order[i + k];
-        i += 1;
-    }
-}
-
-// Writes a slot's numbers, as many as there are in a record.
-pub fn put_record(records: &mut [u32], slot: usize, numbers: &[u32])
-    requires { ⌜ slot * length (now numbers) + length (now numbers) ≤ length (now records) ⌝ }
-    ensures { λ _. ⌜ now (records .exit) ≡ stored (length (now (numbers .entry))) (now (records .entry)) slot 0 (now (numbers .entry)) ⌝ }
-{
-    let base = slot * numbers.len();
-    let mut i = 0;
-    while i < numbers.len() {
-        records[base + i] = numbers[i];
-        i += 1;
-    }
-}
-
-// Reads a slot's numbers, as many as there are in a record.
-pub fn get_record(records: &[u32], slot: usize, numbers: &mut [u32])
-    requires { ⌜ slot * length (now numbers) + length (now numbers) ≤ length (now records) ⌝ }
-    ensures { λ _. ⌜ now (numbers .exit) ≡ loaded (length (now (numbers .entry))) (now (records .entry)) slot 0 (length (now (numbers .entry))) ⌝ }
-{
-    let base = slot * numbers.len();
-    let mut i = 0;
-    while i < numbers.len() {
-        numbers[i] = records[base + i];
-        i += 1;
-    }
-}
-
-// Number k of a slot's record.
-pub fn number_at(records: &[u32], width: usize, slot: usize, k: usize) -> u32
-    requires { ⌜ slot * width + k < length (now records) ⌝ }
-    ensures { λ r. ⌜ r ≡ numberAt width (now (records .entry)) slot k ⌝ }
-{
-    records[slot * width + k]
-}
-
-// Writes number k of a slot's record.
-pub fn put_number(records: &mut [u32], width: usize, slot: usize, k: usize, x: u32)
-    requires { ⌜ slot * width + k < length (now records) ⌝ }
-    ensures { λ _. ⌜ now (records .exit) ≡ stored width (now (records .entry)) slot k (x ∷ []) ⌝ }
-{
-    records[slot * width + k] = x;
-}
-
-// Copies src to byte `at` of a slot, by way of an array: the compiler makes one memmove of it.
-pub fn put_payload(room: &mut [u8], slot: usize, at: usize, src: &[u8])
-    requires { ⌜ slot * 1476 + 1476 ≤ length (now room) ⌝ }
-    requires { ⌜ at + length (now src) ≤ 1476 ⌝ }
-    ensures { λ _. ⌜ now (room .exit) ≡ stored 1476 (now (room .entry)) slot at (now (src .entry)) ⌝ }
-{
-    let n = src.len();
-    let base = slot * 1476 + at;
-    let mut t = [0u8; 1476];
-    bytes::copy(src, &mut t);
-    bytes::copy(&t[0..n], &mut room[base..]);
-}
-
-// Copies a slot's first bytes to byte `to` of out, in the same way.
-pub fn get_payload(room: &[u8], slot: usize, length: usize, out: &mut [u8], to: usize)
-    requires { ⌜ slot * 1476 + 1476 ≤ lib.ListN.length (now room) ⌝ }
-    requires { ⌜ length ≤ 1476 ⌝ }
-    requires { ⌜ to + length ≤ lib.ListN.length (now out) ⌝ }
-    ensures { λ _. ⌜ now (out .exit) ≡ put (now (out .entry)) to (loaded 1476 (now (room .entry)) slot 0 length) ⌝ }
-{
-    let base = slot * 1476;
-    let end = base + length;
-    let mut t = [0u8; 1476];
-    bytes::copy(&room[base..end], &mut t);
-    bytes::copy(&t[0..length], &mut out[to..]);
 }
 
 // 0 where the entry names one of the slots and a length that fits it, and else 1.
@@ -304,9 +193,9 @@ pub fn place(
         ≡ placed (length (now (numbers .entry))) n (lists (now (order .entry)) (now (records .entry)) (now (room .entry))) at slot
         (segment (now (numbers .entry)) (now (src .entry))) ⌝ }
 {
-    put_record(records, slot, numbers);
-    put_payload(room, slot, 0, src);
-    put_in(order, n, at, entry_of(slot, src.len()));
+    lent::put_record(records, slot, numbers);
+    lent::put_payload(room, slot, 0, src);
+    lent::put_in(order, n, at, entry_of(slot, src.len()));
 }
 
 // Puts src behind the payload of the entry at place `at`, and renews the entry's length.
@@ -320,6 +209,6 @@ pub fn fill(order: &mut [u32], room: &mut [u8], at: usize, src: &[u8])
     let entry = order[at];
     let slot = slot_of(entry);
     let length = length_of(entry);
-    put_payload(room, slot, length, src);
+    lent::put_payload(room, slot, length, src);
     order[at] = entry_of(slot, length + src.len());
 }

@@ -8,15 +8,12 @@ use Rattle.slots.proofs.fault_of.Tie as tie
 use Rattle.slots.proofs.fault_of.Reads as reads
 use Rattle.slots.proofs.fault_of.Lts as lts
 
--- src/lib.rt:147:1
 returns : tie.Need-returns
 returns c = sym (fault-slot (c .before .args .slots) (c .before .args .entry) (c .if1 .taken))
 
--- src/lib.rt:147:1
 returns-2 : tie.Need-returns-2
 returns-2 c = sym (fault-long (c .before .before .args .slots) (c .before .before .args .entry) (c .before .if1 .left) (omega arith))
 
--- src/lib.rt:147:1
 returns-3 : tie.Need-returns-3
 returns-3 c = sym (fault-none (c .before .before .args .slots) (c .before .before .args .entry) (c .before .if1 .left) (omega arith))
 

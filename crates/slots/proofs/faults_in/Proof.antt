@@ -16,23 +16,18 @@ Inv-loop order n slots bad₀ i₀ bad i = (i ≤ n) × ((bad ≤ i) × (bad ≡
 abbrev μ-loop : tie.MeasureT-loop
 μ-loop order n slots bad₀ i₀ bad i = n - i
 
--- src/lib.rt:167:5
 loop-holds : tie.Need-loop-holds Inv-loop μ-loop
 loop-holds c = (omega arith, (omega arith, sym (faults-empty (c .before .args .slots))))
 
--- src/lib.rt:168:25
 mul-fault-of : tie.Need-mul-fault-of Inv-loop μ-loop
 mul-fault-of c = omega arith
 
--- src/lib.rt:168:25
 shared-slice-read-fault-of : tie.Need-shared-slice-read-fault-of Inv-loop μ-loop
 shared-slice-read-fault-of c = omega arith
 
--- src/lib.rt:168:16
 fault-of-requires : tie.Need-fault-of-requires Inv-loop μ-loop
 fault-of-requires c κs = omega arith
 
--- src/lib.rt:168:9
 add-bad : tie.Need-add-bad Inv-loop μ-loop
 add-bad c =
     let args = c .before .before .before .before .before .args in
@@ -40,15 +35,12 @@ add-bad c =
     let b = fault-le (args .slots) (getD (args .order .now) (c .before .before .before .loop .i) 0) in
     omega arith
 
--- src/lib.rt:169:9
 add-i : tie.Need-add-i Inv-loop μ-loop
 add-i c = omega arith
 
--- src/lib.rt:167:5
 loop-less : tie.Need-loop-less Inv-loop μ-loop
 loop-less c = omega arith
 
--- src/lib.rt:167:5
 loop-again : tie.Need-loop-again Inv-loop μ-loop
 loop-again c =
     let at-loop = c .before .before .before in
@@ -58,7 +50,6 @@ loop-again c =
     let m = faults-more (args .slots) (args .order .now) (at-loop .loop .i) (omega arith) in
     omega arith
 
--- src/lib.rt:160:1
 returns : tie.Need-returns Inv-loop μ-loop
 returns c =
     let e : c .before .loop .i ≡ c .before .before .before .args .n = omega arith in

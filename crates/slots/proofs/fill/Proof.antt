@@ -7,54 +7,41 @@ use Rattle.slots.proofs.fill.Reads as reads
 use Rattle.slots.proofs.fill.Lts as lts
 use Rattle.slots.proofs.entry_of.Reads as entry-of-reads
 use Rattle.slots.proofs.length_of.Reads as length-of-reads
-use Rattle.slots.proofs.put_payload.Reads as put-payload-reads
 use Rattle.slots.proofs.slot_of.Reads as slot-of-reads
 
--- src/lib.rt:320:17
 mul-entry : tie.Need-mul-entry
 mul-entry c = search needs
 
--- src/lib.rt:320:17
 slice-read-entry : tie.Need-slice-read-entry
 slice-read-entry c = search needs
 
--- src/lib.rt:321:9
 slot-of-requires : tie.Need-slot-of-requires
 slot-of-requires c κs = search needs
 
--- src/lib.rt:322:9
 length-of-requires : tie.Need-length-of-requires
 length-of-requires c κs = search needs
 
--- src/lib.rt:323:5
 put-payload-requires : tie.Need-put-payload-requires
 put-payload-requires c κs = search needs
 
--- src/lib.rt:324:32
 add-entry-of : tie.Need-add-entry-of
 add-entry-of c = search needs
 
--- src/lib.rt:324:17
 entry-of-requires : tie.Need-entry-of-requires
 entry-of-requires c κs = search needs
 
--- src/lib.rt:324:5
 mul-order : tie.Need-mul-order
 mul-order c = search needs
 
--- src/lib.rt:324:5
 slice-write-order : tie.Need-slice-write-order
 slice-write-order c = search needs
 
--- src/lib.rt:313:1
 same-length : tie.Need-same-length
 same-length c = search needs
 
--- src/lib.rt:313:1
 same-length-2 : tie.Need-same-length-2
 same-length-2 c = search needs
 
--- src/lib.rt:313:1
 returns : tie.Need-returns
 returns c =
     let args = c .before .before .before .before .before .before .before .before .before .before .before .args in

@@ -10,43 +10,34 @@ use Rattle.slots.proofs.fitting.Reads as reads
 use Rattle.slots.proofs.fitting.Lts as lts
 use Rattle.slots.proofs.faults_in.Reads as faults-in-reads
 
--- src/lib.rt:181:9
 returns : tie.Need-returns
 unfolding fits
 returns c = rw (lt-leb _ _ (c .if1 .taken))
 
--- src/lib.rt:184:9
 returns-2 : tie.Need-returns-2
 unfolding fits
 returns-2 c = rw (le-leb _ _ (c .before .if1 .left), lt-leb _ _ (c .if2 .taken))
 
--- src/lib.rt:186:25
 mul-if3 : tie.Need-mul-if3
 mul-if3 c = let args = c .before .before .before .before .before .args in omega (arith, mul-le-mul {n₁ = length (args .order .now)} {m₁ = args .width} {n₂ = 65535} {m₂ = 64} (c .before .if1 .left) (c .before .before .before .before .before .pre))
 
--- src/lib.rt:187:9
 returns-3 : tie.Need-returns-3
 unfolding fits
 returns-3 c = rw (le-leb _ _ (c .before .before .if1 .left), le-leb _ _ (c .before .if2 .left), ne-eqb _ _ (c .if3 .taken))
 
--- src/lib.rt:189:22
 mul-if4 : tie.Need-mul-if4
 mul-if4 c = search needs
 
--- src/lib.rt:190:9
 returns-4 : tie.Need-returns-4
 unfolding fits
 returns-4 c = rw (le-leb _ _ (c .before .before .before .if1 .left), le-leb _ _ (c .before .before .if2 .left), eq-eqb _ _ (c .before .if3 .left), ne-eqb _ _ (c .if4 .taken))
 
--- src/lib.rt:192:25
 cast-faults-in : tie.Need-cast-faults-in
 cast-faults-in c = search needs
 
--- src/lib.rt:192:5
 faults-in-requires : tie.Need-faults-in-requires
 faults-in-requires c κs = search needs
 
--- src/lib.rt:175:1
 returns-5 : tie.Need-returns-5
 unfolding fits
 returns-5 c =

@@ -16,38 +16,30 @@ Inv-loop marks slots i₀ i = (i ≤ slots) × ((k : ℕ) → k < i → getD mar
 abbrev μ-loop : tie.MeasureT-loop
 μ-loop marks slots i₀ i = slots - i
 
--- src/lib.rt:276:9
 set-blocks-requires : tie.Need-set-blocks-requires Inv-loop μ-loop
 set-blocks-requires c κs = omega arith
 
--- src/lib.rt:277:5
 loop-holds : tie.Need-loop-holds Inv-loop μ-loop
 loop-holds c = c .set-blocks .ensures
 
--- src/lib.rt:278:12
 shared-slice-read-if1 : tie.Need-shared-slice-read-if1 Inv-loop μ-loop
 shared-slice-read-if1 c = omega arith
 
--- src/lib.rt:279:13
 returns : tie.Need-returns Inv-loop μ-loop
 returns c =
     let at-loop = c .before .before .before in
     let args = at-loop .before .before .before .args in
     found (args .marks .now) (args .slots) (at-loop .loop .i) (omega arith) (at-loop .loop .inv .1) (omega arith) (c .if1 .taken)
 
--- src/lib.rt:281:9
 add-i : tie.Need-add-i Inv-loop μ-loop
 add-i c = omega arith
 
--- src/lib.rt:277:5
 loop-less : tie.Need-loop-less Inv-loop μ-loop
 loop-less c = omega arith
 
--- src/lib.rt:277:5
 loop-again : tie.Need-loop-again Inv-loop μ-loop
 loop-again c = (omega arith, below-more _ _ (c .before .before .before .loop .inv .1) (c .if1 .left))
 
--- src/lib.rt:272:1
 returns-2 : tie.Need-returns-2 Inv-loop μ-loop
 returns-2 c =
     let args = c .before .before .before .before .args in

@@ -22,23 +22,18 @@ Inv-loop order n marks₀ twice₀ i₀ marks twice i =
 abbrev μ-loop : tie.MeasureT-loop
 μ-loop order n marks₀ twice₀ i₀ marks twice i = n - i
 
--- src/lib.rt:205:5
 loop-holds : tie.Need-loop-holds Inv-loop μ-loop
 loop-holds c = (omega arith, (omega arith, (refl, (omega arith, refl))))
 
--- src/lib.rt:206:25
 mul-slot-of : tie.Need-mul-slot-of Inv-loop μ-loop
 mul-slot-of c = omega arith
 
--- src/lib.rt:206:25
 shared-slice-read-slot-of : tie.Need-shared-slice-read-slot-of Inv-loop μ-loop
 shared-slice-read-slot-of c = omega arith
 
--- src/lib.rt:206:13
 slot-of-requires : tie.Need-slot-of-requires Inv-loop μ-loop
 slot-of-requires c κs = omega arith
 
--- src/lib.rt:207:18
 -- the entry's slot has a mark
 slot-in : (c : tie.After-slice-known2 Inv-loop μ-loop) → c .before .slot-of .result < length (c .before .before .before .before .loop .marks)
 slot-in c =
@@ -50,27 +45,21 @@ slot-in c =
 slice-read-twice : tie.Need-slice-read-twice Inv-loop μ-loop
 slice-read-twice c = slot-in c
 
--- src/lib.rt:207:18
 cast-twice : tie.Need-cast-twice Inv-loop μ-loop
 cast-twice c = omega (arith, c .slice-known2 .given (c .before .slot-of .result))
 
--- src/lib.rt:207:9
 add-twice : tie.Need-add-twice Inv-loop μ-loop
 add-twice c = omega (arith, c .slice-known2 .given (c .before .slot-of .result))
 
--- src/lib.rt:208:9
 slice-write-marks : tie.Need-slice-write-marks Inv-loop μ-loop
 slice-write-marks c = slot-in c
 
--- src/lib.rt:209:9
 add-i : tie.Need-add-i Inv-loop μ-loop
 add-i c = omega arith
 
--- src/lib.rt:205:5
 loop-less : tie.Need-loop-less Inv-loop μ-loop
 loop-less c = omega arith
 
--- src/lib.rt:205:5
 loop-again : tie.Need-loop-again Inv-loop μ-loop
 loop-again c =
     let at-loop = c .before .before .before .before in
@@ -94,11 +83,9 @@ loop-again c =
       ),
     )
 
--- src/lib.rt:196:1
 same-length : tie.Need-same-length Inv-loop μ-loop
 same-length c = omega arith
 
--- src/lib.rt:196:1
 returns : tie.Need-returns Inv-loop μ-loop
 returns c =
     let at-loop = c .before in

@@ -16,37 +16,29 @@ Inv-loop marks slots i₀ i = (i ≤ slots) × ((k : ℕ) → k < i → getD mar
 abbrev μ-loop : tie.MeasureT-loop
 μ-loop marks slots i₀ i = slots - i
 
--- src/lib.rt:259:5
 loop-holds : tie.Need-loop-holds Inv-loop μ-loop
 loop-holds c = (omega arith, λ k h. absurd (omega arith))
 
--- src/lib.rt:260:12
 sub-loop : tie.Need-sub-loop Inv-loop μ-loop
 sub-loop c = omega arith
 
--- src/lib.rt:263:13
 all-set-requires : tie.Need-all-set-requires Inv-loop μ-loop
 all-set-requires c κs = omega arith
 
--- src/lib.rt:266:9
 add-i : tie.Need-add-i Inv-loop μ-loop
 add-i c = omega arith
 
--- src/lib.rt:259:5
 loop-less : tie.Need-loop-less Inv-loop μ-loop
 loop-less c = omega arith
 
--- src/lib.rt:259:5
 loop-again : tie.Need-loop-again Inv-loop μ-loop
 loop-again c =
     let at-loop = c .before .before .before in
     (omega arith, more-set (at-loop .before .before .args .marks .now) _ 16 (at-loop .loop .inv .1) (c .before .all-set .ensures (not-false _ (c .if1 .left))))
 
--- src/lib.rt:253:1
 returns : tie.Need-returns Inv-loop μ-loop
 returns c = c .before .loop .inv
 
--- src/lib.rt:253:1
 returns-2 : tie.Need-returns-2 Inv-loop μ-loop
 returns-2 c = c .before .before .before .loop .inv
 

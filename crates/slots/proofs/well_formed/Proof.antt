@@ -12,17 +12,14 @@ use Rattle.slots.proofs.well_formed.Lts as lts
 use Rattle.slots.proofs.fitting.Reads as fitting-reads
 use Rattle.slots.proofs.mark.Reads as mark-reads
 
--- src/lib.rt:230:9
 fitting-requires : tie.Need-fitting-requires
 fitting-requires c κs = search needs
 
--- src/lib.rt:231:9
 returns : tie.Need-returns
 returns c =
     let no = sym (c .before .fitting .ensures) ∙ not-true _ (c .if1 .taken) in
     (refused _ _ _ no, sym (tested-no _ _ _ _ no))
 
--- src/lib.rt:233:5
 -- the sizes agree
 yes : (c : tie.Else1) → fits (c .before .before .before .before .before .before .args .width) (c .before .before .before .before .before .before .args .n) (lists (c .before .before .before .before .before .before .args .order .now) (c .before .before .before .before .before .before .args .records .now) (c .before .before .before .before .before .before .args .room .now)) ≡ true
 yes c = sym (c .before .fitting .ensures) ∙ not-false _ (c .if1 .left)
@@ -34,11 +31,9 @@ mark-requires c κs =
     let s = fits-slots _ _ _ y in
     (m, (omega arith, λ i h. let b = fits-below _ _ _ y i h in omega arith))
 
--- src/lib.rt:215:1
 same-length : tie.Need-same-length
 same-length c = search needs
 
--- src/lib.rt:215:1
 returns-2 : tie.Need-returns-2
 returns-2 c =
     let start = c .before .before .before .before .before .before .before .before .before .before in

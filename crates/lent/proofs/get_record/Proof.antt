@@ -3,13 +3,13 @@ use Prim.Native.Nat.{ℕ, _+_, _-_, _*_, _≤_, _<_}
 use mathlib.Core.Path.{_≡_, refl, ap, _∙_}
 use native.Mathlib.Nat.{add-zero}
 use lib.ListN.{length, take, drop, getD, length-set}
-use Rattle.slots.specs.Records.{put, part}
-use Rattle.slots.proofs.Moves.{mixed, mixed-none}
-use Rattle.slots.proofs.Rows.{get-turn, get-end}
-use Rattle.slots.proofs.get_record.Statement.{statement}
-use Rattle.slots.proofs.get_record.Tie as tie
-use Rattle.slots.proofs.get_record.Reads as reads
-use Rattle.slots.proofs.get_record.Lts as lts
+use Rattle.lent.specs.Records.{put, part}
+use Rattle.lent.proofs.Moves.{mixed, mixed-none}
+use Rattle.lent.proofs.Rows.{get-turn, get-end}
+use Rattle.lent.proofs.get_record.Statement.{statement}
+use Rattle.lent.proofs.get_record.Tie as tie
+use Rattle.lent.proofs.get_record.Reads as reads
+use Rattle.lent.proofs.get_record.Lts as lts
 
 abbrev Inv-loop : tie.InvT-loop
 Inv-loop records slot numbers₀ base i₀ numbers i =
@@ -18,54 +18,42 @@ Inv-loop records slot numbers₀ base i₀ numbers i =
 abbrev μ-loop : tie.MeasureT-loop
 μ-loop records slot numbers₀ base i₀ numbers i = length numbers₀ - i
 
--- src/lib.rt:95:16
 mul-base : tie.Need-mul-base Inv-loop μ-loop
 mul-base c = omega arith
 
--- src/lib.rt:97:5
 loop-holds : tie.Need-loop-holds Inv-loop μ-loop
 loop-holds c = (omega arith, (refl, mixed-none _ _))
 
--- src/lib.rt:98:30
 add-numbers : tie.Need-add-numbers Inv-loop μ-loop
 add-numbers c = omega arith
 
--- src/lib.rt:98:22
 mul-numbers : tie.Need-mul-numbers Inv-loop μ-loop
 mul-numbers c = omega arith
 
--- src/lib.rt:98:22
 shared-slice-read-numbers : tie.Need-shared-slice-read-numbers Inv-loop μ-loop
 shared-slice-read-numbers c = omega arith
 
--- src/lib.rt:98:9
 mul-numbers-2 : tie.Need-mul-numbers-2 Inv-loop μ-loop
 mul-numbers-2 c = omega arith
 
--- src/lib.rt:98:9
 slice-write-numbers : tie.Need-slice-write-numbers Inv-loop μ-loop
 slice-write-numbers c = omega arith
 
--- src/lib.rt:99:9
 add-i : tie.Need-add-i Inv-loop μ-loop
 add-i c = omega arith
 
--- src/lib.rt:97:5
 loop-less : tie.Need-loop-less Inv-loop μ-loop
 loop-less c = omega arith
 
--- src/lib.rt:97:5
 loop-again : tie.Need-loop-again Inv-loop μ-loop
 loop-again c =
     let at-loop = c .before .before in
     let args = at-loop .before .args in
     (omega arith, (simp length-set (omega arith), get-turn _ (args .numbers .now) _ (args .slot * length (args .numbers .now)) _ (omega arith) (omega arith) (at-loop .loop .inv .1 .1)))
 
--- src/lib.rt:91:1
 same-length : tie.Need-same-length Inv-loop μ-loop
 same-length c = omega arith
 
--- src/lib.rt:91:1
 returns : tie.Need-returns Inv-loop μ-loop
 returns c =
     let at-loop = c .before in

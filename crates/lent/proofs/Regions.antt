@@ -7,8 +7,8 @@ use native.Mathlib.Numerals.{add-one}
 use mathlib.Core.List.{List, [], _∷_, _++_, append-assoc, map}
 use lib.ListN.{length, take, drop, getD, set, length-append, length-drop, length-map, take-append-drop}
 use lib.Seq.{take-at, drop-at, take-append-le, drop-append-le, take-append-add, drop-append-add, drop-drop, length-take-le, take-add, take-take, getD-take, getD-drop, take-set-le, take-set-lt, drop-set-lt, drop-set-add, set-getD}
-use Rattle.slots.specs.Order.{removed, inserted, region}
-use Rattle.slots.proofs.Moves.{length-removed, drop-take}
+use Rattle.lent.specs.Order.{removed, inserted, region}
+use Rattle.lent.proofs.Moves.{length-removed, drop-take}
 
 -- ---- the moves in a list of two parts
 

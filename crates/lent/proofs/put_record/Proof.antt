@@ -5,12 +5,12 @@ use native.Mathlib.Nat.{add-zero}
 use mathlib.Core.List.{List}
 use lib.ListN.{length, take, drop, getD, length-set}
 use lib.Seq.{length-take-le, paste, paste-zero}
-use Rattle.slots.specs.Records.{put, part}
-use Rattle.slots.proofs.Rows.{put-turn, put-end}
-use Rattle.slots.proofs.put_record.Statement.{statement}
-use Rattle.slots.proofs.put_record.Tie as tie
-use Rattle.slots.proofs.put_record.Reads as reads
-use Rattle.slots.proofs.put_record.Lts as lts
+use Rattle.lent.specs.Records.{put, part}
+use Rattle.lent.proofs.Rows.{put-turn, put-end}
+use Rattle.lent.proofs.put_record.Statement.{statement}
+use Rattle.lent.proofs.put_record.Tie as tie
+use Rattle.lent.proofs.put_record.Reads as reads
+use Rattle.lent.proofs.put_record.Lts as lts
 
 abbrev Inv-loop : tie.InvT-loop
 Inv-loop records₀ slot numbers base i₀ records i =
@@ -19,54 +19,42 @@ Inv-loop records₀ slot numbers base i₀ records i =
 abbrev μ-loop : tie.MeasureT-loop
 μ-loop records₀ slot numbers base i₀ records i = length numbers - i
 
--- src/lib.rt:82:16
 mul-base : tie.Need-mul-base Inv-loop μ-loop
 mul-base c = omega arith
 
--- src/lib.rt:84:5
 loop-holds : tie.Need-loop-holds Inv-loop μ-loop
 loop-holds c = (omega arith, (refl, paste-zero (c .args .records .now) (c .args .slot * length (c .args .numbers .now)) (c .args .numbers .now)))
 
--- src/lib.rt:85:29
 mul-records : tie.Need-mul-records Inv-loop μ-loop
 mul-records c = omega arith
 
--- src/lib.rt:85:29
 shared-slice-read-records : tie.Need-shared-slice-read-records Inv-loop μ-loop
 shared-slice-read-records c = omega arith
 
--- src/lib.rt:85:17
 add-records : tie.Need-add-records Inv-loop μ-loop
 add-records c = omega arith
 
--- src/lib.rt:85:9
 mul-records-2 : tie.Need-mul-records-2 Inv-loop μ-loop
 mul-records-2 c = omega arith
 
--- src/lib.rt:85:9
 slice-write-records : tie.Need-slice-write-records Inv-loop μ-loop
 slice-write-records c = omega arith
 
--- src/lib.rt:86:9
 add-i : tie.Need-add-i Inv-loop μ-loop
 add-i c = omega arith
 
--- src/lib.rt:84:5
 loop-less : tie.Need-loop-less Inv-loop μ-loop
 loop-less c = omega arith
 
--- src/lib.rt:84:5
 loop-again : tie.Need-loop-again Inv-loop μ-loop
 loop-again c =
     let at-loop = c .before .before in
     let args = at-loop .before .args in
     (omega arith, (simp length-set (omega arith), put-turn _ _ (args .numbers .now) _ (at-loop .loop .i) (omega arith) (omega arith) (at-loop .loop .inv .1 .1)))
 
--- src/lib.rt:78:1
 same-length : tie.Need-same-length Inv-loop μ-loop
 same-length c = omega arith
 
--- src/lib.rt:78:1
 returns : tie.Need-returns Inv-loop μ-loop
 returns c =
     let at-loop = c .before in

@@ -5,76 +5,60 @@ use native.Mathlib.Nat.{add-zero}
 use mathlib.Core.List.{List}
 use lib.ListN.{length, take, drop, getD, length-set}
 use lib.Seq.{length-take-le, paste, paste-zero}
-use Rattle.slots.specs.Records.{put, part}
-use Rattle.slots.proofs.Rows.{by-way, part-range, part-length}
+use Rattle.lent.specs.Records.{put, part}
+use Rattle.lent.proofs.Rows.{by-way, part-range, part-length}
 use borrow.Author.Needs.{needs}
-use Rattle.slots.proofs.get_payload.Statement.{statement}
-use Rattle.slots.proofs.get_payload.Tie as tie
-use Rattle.slots.proofs.get_payload.Reads as reads
-use Rattle.slots.proofs.get_payload.Lts as lts
+use Rattle.lent.proofs.get_payload.Statement.{statement}
+use Rattle.lent.proofs.get_payload.Tie as tie
+use Rattle.lent.proofs.get_payload.Reads as reads
+use Rattle.lent.proofs.get_payload.Lts as lts
 use Rattle.bytes.proofs.copy.Reads as copy-reads
 
--- src/lib.rt:139:16
 mul-base : tie.Need-mul-base
 mul-base c = search needs
 
--- src/lib.rt:140:15
 add-end : tie.Need-add-end
 add-end c = search needs
 
--- src/lib.rt:142:17
 sub-copy : tie.Need-sub-copy
 sub-copy c = search needs
 
--- src/lib.rt:142:17
 part-copy-start : tie.Need-part-copy-start
 part-copy-start c = search needs
 
--- src/lib.rt:142:17
 part-copy-end : tie.Need-part-copy-end
 part-copy-end c = search needs
 
--- src/lib.rt:142:35
 slice-aggregate-copy : tie.Need-slice-aggregate-copy
 slice-aggregate-copy c = search needs
 
--- src/lib.rt:142:5
 copy-requires : tie.Need-copy-requires
 copy-requires c κs = search needs
 
--- src/lib.rt:143:17
 sub-copy-2 : tie.Need-sub-copy-2
 sub-copy-2 c = search needs
 
--- src/lib.rt:143:17
 part-copy-start-2 : tie.Need-part-copy-start-2
 part-copy-start-2 c = search needs
 
--- src/lib.rt:143:17
 part-copy-end-2 : tie.Need-part-copy-end-2
 part-copy-end-2 c = search needs
 
--- src/lib.rt:143:32
 sub-copy-3 : tie.Need-sub-copy-3
 sub-copy-3 c = search needs
 
--- src/lib.rt:143:32
 part-copy-start-3 : tie.Need-part-copy-start-3
 part-copy-start-3 c = search needs
 
--- src/lib.rt:143:32
 part-copy-end-3 : tie.Need-part-copy-end-3
 part-copy-end-3 c = search needs
 
--- src/lib.rt:143:5
 copy-requires-2 : tie.Need-copy-requires-2
 copy-requires-2 c κs = search needs
 
--- src/lib.rt:133:1
 same-length : tie.Need-same-length
 same-length c = search needs
 
--- src/lib.rt:133:1
 returns : tie.Need-returns
 returns c =
     let args = c .before .before .before .before .before .before .before .before .before .before .before .before .args in

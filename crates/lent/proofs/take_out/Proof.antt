@@ -4,12 +4,12 @@ use mathlib.Core.Path.{_≡_, refl, sym}
 use mathlib.Core.List.{List, [], _++_}
 use lib.ListN.{length, take, drop, getD, set, length-set}
 use borrow.Author.Needs.{needs}
-use Rattle.slots.specs.Order.{removed, inserted}
-use Rattle.slots.proofs.Moves as laws
-use Rattle.slots.proofs.take_out.Statement.{statement}
-use Rattle.slots.proofs.take_out.Tie as tie
-use Rattle.slots.proofs.take_out.Reads as reads
-use Rattle.slots.proofs.take_out.Lts as lts
+use Rattle.lent.specs.Order.{removed, inserted}
+use Rattle.lent.proofs.Moves as laws
+use Rattle.lent.proofs.take_out.Statement.{statement}
+use Rattle.lent.proofs.take_out.Tie as tie
+use Rattle.lent.proofs.take_out.Reads as reads
+use Rattle.lent.proofs.take_out.Lts as lts
 
 abbrev Inv-loop : tie.InvT-loop
 Inv-loop order₀ n at last i₀ order i =

@@ -9,8 +9,8 @@ use mathlib.Core.List.{List, [], _∷_, _++_, append-assoc, append-nil}
 use lib.ListN.{length, take, drop, getD, set, length-append, length-drop, take-append-drop, drop-of-length-le}
 use lib.Seq.{drop-cons, set-split, append-snoc, take-at, drop-at, take-append-le, drop-append-le, drop-append-add, drop-drop, take-add, length-take-le, take-length, getD-take, getD-drop, paste, paste-zero, paste-suc, take-all, drop-length, take-take}
 use borrow.Rule.Slice.PartAt.{part-to-end}
-use Rattle.slots.proofs.Moves.{mixed, mixed-more, drop-take}
-use Rattle.slots.specs.Records.{put, part, stored, loaded, numberAt}
+use Rattle.lent.proofs.Moves.{mixed, mixed-more, drop-take}
+use Rattle.lent.specs.Records.{put, part, stored, loaded, numberAt}
 
 pub put-length : (l : List ℕ) (at : ℕ) (x : List ℕ) → at + length x ≤ length l → length (put l at x) ≡ length l
 unfolding put

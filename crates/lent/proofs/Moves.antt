@@ -7,7 +7,7 @@ use mathlib.Core.List.{List, [], _∷_, _++_, append-assoc}
 use native.Mathlib.Numerals.{add-one}
 use lib.ListN.{length, take, drop, getD, set, take-append-drop, length-drop, List·getD-append}
 use lib.Seq.{drop-cons, getD-take, getD-drop, getD-append-add, take-length, take-suc, append-snoc, set-at, length-take-le, drop-append-le, take-take, take-add, drop-at}
-use Rattle.slots.specs.Order.{removed, inserted}
+use Rattle.lent.specs.Order.{removed, inserted}
 
 -- ---- `removed`: what is before the entry stays, and what is after it moves down by one
 
