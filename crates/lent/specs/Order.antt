@@ -1,6 +1,6 @@
 -- Moves in a list, which an entry is put into or taken out of, and its regions. Assumes nothing.
 use Prim.Native.Nat.{ℕ, suc, _+_, _-_}
-use mathlib.Core.List.{List, [], _∷_, _++_, map}
+use mathlib.Core.List.{List, _∷_, _++_, map}
 use lib.ListN.{take, drop}
 
 -- l with x put in at index i

@@ -1,6 +1,6 @@
 -- Slots of w numbers or bytes each, one after the other in a list. Assumes nothing.
 use Prim.Native.Nat.{ℕ, _+_, _*_}
-use mathlib.Core.List.{List, [], _∷_, _++_}
+use mathlib.Core.List.{List, _++_}
 use lib.ListN.{length, take, drop, getD}
 
 -- l with x from index `at` on

@@ -79,7 +79,8 @@ pub fn number_at(records: &[u32], width: usize, slot: usize, k: usize) -> u32
     requires { ⌜ slot * width + k < length (now records) ⌝ }
     ensures { λ r. ⌜ r ≡ numberAt width (now (records .entry)) slot k ⌝ }
 {
-    records[slot * width + k]
+    let i = slot * width + k;
+    records[i]
 }
 
 // Writes number k of a slot's record.

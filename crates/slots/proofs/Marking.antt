@@ -1,20 +1,18 @@
 -- The laws of the marks: which are set, what a repeated slot shows, and where the first free one is. Assumes nothing.
 use mathlib.Core.Path.{_≡_, refl, sym, ap, _∙_}
-use Prim.Native.Nat.{ℕ, zero, suc, _+_, _-_, _*_, _≤_, _<_, zero-le, suc-le-suc}
+use Prim.Native.Nat.{ℕ, zero, suc, _+_, _-_, _≤_, _<_, zero-le, suc-le-suc}
 use native.Mathlib.Nat.{le-of-suc-le-suc, not-suc-le-zero}
 use native.Mathlib.Omega.{arith}
 use native.Mathlib.Numerals.{add-one}
 use native.Mathlib.Decide.{ℕ-discrete, decLt}
-use mathlib.Core.Bool.{Bool, true, false}
-use mathlib.Core.List.{List, [], _∷_, _++_}
-use lib.ListN.{length, take, drop, getD, set, length-set, replicate, length-replicate, getD-replicate}
-use lib.Seq.{drop-cons, take-length, drop-length, length-take-le, getD-take, getD-set-same, getD-set-other, take-suc}
-use lib.Dec.{eqb}
+use mathlib.Core.List.{List, [], _∷_}
+use lib.ListN.{length, take, drop, getD, set, length-set, replicate, length-replicate}
+use lib.Seq.{drop-cons, drop-length, length-take-le, getD-take, getD-set-same, getD-set-other}
 use borrow.Author.Tests.{eq-eqb, ne-eqb}
-use Rattle.slots.specs.Entries.{slotOf, pick, uses, faults, freeSlot}
+use Rattle.slots.specs.Entries.{slotOf, uses, faults, freeSlot}
 use Rattle.slots.specs.Marks.{marked, repeats, firstFree}
 use Rattle.slots.proofs.Totals.{uses-none, uses-own, uses-other, faults-cons, sound-slot}
-use Rattle.slots.proofs.Free.{Full, lowest, free-below}
+use Rattle.slots.proofs.Free.{lowest, free-below}
 
 -- ---- `mark`: what is left to do after i entries is done on the marks as they are then
 

@@ -1,10 +1,10 @@
 -- What the functions find and leave of a pool, as `specs/Pool.antt` says it. Assumes nothing.
 use mathlib.Core.Path.{_≡_, refl, sym, ap, _∙_}
-use Prim.Native.Nat.{ℕ, zero, suc, _+_, _-_, _*_, _≤_, _<_}
+use Prim.Native.Nat.{ℕ, _*_, _≤_, _<_}
 use native.Mathlib.Omega.{arith}
 use mathlib.Core.Bool.{Bool, true, false, _&&_}
-use mathlib.Core.List.{List, [], _∷_, _++_}
-use lib.ListN.{length, take, drop, getD, set, replicate}
+use mathlib.Core.List.{List}
+use lib.ListN.{length, take, getD, set, replicate}
 use lib.Seq.{length-take-le, getD-take}
 use lib.Dec.{eqb, leb}
 use borrow.Author.Tests.{eq-eqb, le-leb, leb-true, eqb-true}

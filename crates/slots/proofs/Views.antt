@@ -1,21 +1,20 @@
 -- What stands in a pool after each memory function, and that the pool stays well formed. Assumes nothing.
 use mathlib.Core.Path.{_≡_, refl, sym, ap, _∙_}
-use Prim.Native.Nat.{ℕ, zero, suc, _+_, _-_, _*_, _/_, _%_, _≤_, _<_}
+use Prim.Native.Nat.{ℕ, suc, _+_, _-_, _*_, _≤_, _<_}
 use native.Mathlib.Omega.{arith}
-use native.Mathlib.Nat.{add-zero}
 use native.Mathlib.Decide.{ℕ-discrete}
-use mathlib.Core.List.{List, [], _∷_, _++_, map, map-map}
+use mathlib.Core.List.{List, _++_, map, map-map}
 use lib.ListN.{length, take, drop, getD, set, length-append, length-drop, length-set}
 use lib.Seq.{take-at, take-set-lt, length-take-le, getD-take, getD-set-other}
 use Rattle.lent.specs.Order.{inserted, removed, region, orderIn}
 use Rattle.slots.specs.Entries.{total, entryOf, slotOf, lengthOf, inSlot, uses, fault, faults, freeSlot}
-use Rattle.lent.specs.Records.{put, part, stored, loaded, numberAt}
+use Rattle.lent.specs.Records.{put}
 use Rattle.slots.specs.Pool.{Lists, lists, Stored, segment, stands, view, numbersAt, lengthsAt, Pool, placed, takenOut, dropped, longer, grown, filled, renewed}
 use Rattle.lent.proofs.Moves.{length-removed}
 use Rattle.slots.proofs.Totals.{total-at, total-set, total-inserted, total-removed, total-split, slot-entry, length-entry, in-own, in-other, slots-below, lengths-fit, fault-none}
 use Rattle.slots.proofs.Free.{lowest, free-in}
-use Rattle.lent.proofs.Rows.{row-in, put-length, part-length, stored-length, loaded-own, loaded-other, loaded-joined, loaded-put, loaded-number}
-use Rattle.lent.proofs.Regions.{length-inserted, map-at, map-same, map-but, region-length, region-at, region-same, region-but, region-one, in-within, in-behind, in-before, out-within, out-behind, out-before, from-before, from-within, set-within, set-behind, set-before}
+use Rattle.lent.proofs.Rows.{row-in, part-length, stored-length, loaded-own, loaded-other, loaded-joined, loaded-put, loaded-number}
+use Rattle.lent.proofs.Regions.{length-inserted, map-same, region-same, region-but, region-one, in-within, in-behind, in-before, out-within, out-behind, out-before, from-before, from-within, set-within, set-behind, set-before}
 
 -- ---- what is known of the entry at place i of the n in use
 

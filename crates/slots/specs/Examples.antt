@@ -1,14 +1,13 @@
 -- The definitions at small closed cases. Assumes nothing.
-use Prim.Native.Nat.{ℕ, _+_, _*_}
-use mathlib.Core.Bool.{Bool, true, false}
+use mathlib.Core.Bool.{true, false}
 use mathlib.Core.Path.{_≡_, refl}
-use mathlib.Core.List.{List, [], _∷_}
-use lib.ListN.{length, replicate}
+use mathlib.Core.List.{[], _∷_}
+use lib.ListN.{replicate}
 use Rattle.lent.specs.Order.{inserted, removed, region}
-use Rattle.slots.specs.Entries.{total, entryOf, slotOf, lengthOf, inSlot, uses, fault, faults, freeFrom, freeSlot}
+use Rattle.slots.specs.Entries.{total, inSlot, uses, fault, faults, freeFrom, freeSlot}
 use Rattle.slots.specs.Marks.{marked, repeats, firstFree}
 use Rattle.lent.specs.Records.{put, part}
-use Rattle.slots.specs.Pool.{Lists, lists, Stored, segment, stands, view, numbersAt, lengthsAt, fits, tested, placed, takenOut, dropped, filled, renewed}
+use Rattle.slots.specs.Pool.{Lists, lists, segment, stands, view, numbersAt, lengthsAt, fits, tested, placed, takenOut, dropped, filled, renewed}
 
 -- three slots of two numbers, all free; the last two entries are stale
 empty : Lists

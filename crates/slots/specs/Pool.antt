@@ -1,10 +1,10 @@
 -- "every slot of a pool is in exactly one of free, queue, buffer; payloads at most 1,476 bytes". A pool of w numbers a slot in lent lists:
 -- the first n entries of the order, front region and then back region, are what is in use; every other slot is free. Assumes nothing.
-use Prim.Native.Nat.{ℕ, _+_, _-_, _*_, _≤_, _<_}
-use mathlib.Core.Bool.{Bool, true, false, _&&_}
+use Prim.Native.Nat.{ℕ, _+_, _*_, _≤_}
+use mathlib.Core.Bool.{Bool, _&&_}
 use mathlib.Core.Path.{_≡_}
-use mathlib.Core.List.{List, [], _∷_, _++_}
-use lib.ListN.{length, take, drop, getD, set}
+use mathlib.Core.List.{List, _++_}
+use lib.ListN.{length, take, getD, set}
 use lib.Dec.{eqb, leb}
 use Rattle.lent.specs.Order.{region, orderIn, orderOut, orderFrom}
 use Rattle.slots.specs.Entries.{entryOf, slotOf, lengthOf, pick, uses, faults}

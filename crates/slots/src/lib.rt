@@ -32,13 +32,16 @@ pub fn length_of(entry: u32) -> usize
     (entry / 65536) as usize
 }
 
+// The least entry whose payload is longer than a slot.
+const TOO_LONG: u32 = 1477 * 65536;
+
 // 0 where the entry names one of the slots and a length that fits it, and else 1.
 fn fault_of(entry: u32, slots: u32) -> u32
     ensures { λ r. ⌜ r ≡ fault slots entry ⌝ }
 {
     if entry % 65536 >= slots {
         1
-    } else if entry >= 96796672 {
+    } else if entry >= TOO_LONG {
         1
     } else {
         0

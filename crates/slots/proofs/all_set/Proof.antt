@@ -1,15 +1,13 @@
-use Prim.Native.Nat.{ℕ, suc, _+_, _*_, _≤_, _<_, _-_}
+-- `slots::all_set` meets its contract. While `full` is not 0, the first k marks of the block are set. Assumes nothing.
+use Prim.Native.Nat.{ℕ, _+_, _≤_, _<_, _-_}
 use native.Mathlib.Omega.{arith}
-use mathlib.Core.Path.{_≡_, refl, sym, _∙_}
+use mathlib.Core.Path.{_≡_, _∙_}
 use mathlib.Core.Logic.{⊎-elim}
-use lib.ListN.{length, getD}
+use lib.ListN.{getD}
 use borrow.Author.Tests.{eqb-false, not-true}
-use borrow.Author.Needs.{needs}
 use borrow.Author.Count.{below-more}
 use Rattle.slots.proofs.all_set.Statement.{statement}
 use Rattle.slots.proofs.all_set.Tie as tie
-use Rattle.slots.proofs.all_set.Reads as reads
-use Rattle.slots.proofs.all_set.Lts as lts
 
 abbrev Inv-loop : tie.InvT-loop
 Inv-loop marks i full₀ k₀ full k = (k ≤ 16) × ((full ≡ 0 → ⊥) → (q : ℕ) → q < k → getD marks (i + q) 0 ≡ 0 → ⊥)

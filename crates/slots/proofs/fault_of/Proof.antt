@@ -1,12 +1,9 @@
+-- `slots::fault_of` meets its contract. One comparison of the whole entry tests its length. Assumes nothing.
 use native.Mathlib.Omega.{arith}
-use Prim.Native.Nat.{ℕ, _+_, _-_, _*_, _/_, _%_, _≤_, _<_}
-use mathlib.Core.Path.{_≡_, refl, sym, ap, _∙_}
-use lib.ListN.{length, take, drop, getD, set, length-set}
+use mathlib.Core.Path.{sym}
 use Rattle.slots.proofs.Totals.{fault-slot, fault-long, fault-none}
 use Rattle.slots.proofs.fault_of.Statement.{statement}
 use Rattle.slots.proofs.fault_of.Tie as tie
-use Rattle.slots.proofs.fault_of.Reads as reads
-use Rattle.slots.proofs.fault_of.Lts as lts
 
 returns : tie.Need-returns
 returns c = sym (fault-slot (c .before .args .slots) (c .before .args .entry) (c .if1 .taken))

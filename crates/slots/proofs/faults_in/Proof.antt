@@ -1,14 +1,12 @@
+-- `slots::faults_in` meets its contract. The sum is that of the faults among the first i entries. Assumes nothing.
 use native.Mathlib.Omega.{arith}
-use Prim.Native.Nat.{ℕ, _+_, _-_, _*_, _/_, _%_, _≤_, _<_}
-use mathlib.Core.Path.{_≡_, refl, sym, ap, _∙_}
-use lib.ListN.{length, take, drop, getD, set, length-set}
-use Rattle.slots.specs.Entries.{faults, fault}
+use Prim.Native.Nat.{_-_, _≤_}
+use mathlib.Core.Path.{_≡_, sym}
+use lib.ListN.{take, getD}
+use Rattle.slots.specs.Entries.{faults}
 use Rattle.slots.proofs.Totals.{faults-more, fault-le, faults-empty}
 use Rattle.slots.proofs.faults_in.Statement.{statement}
 use Rattle.slots.proofs.faults_in.Tie as tie
-use Rattle.slots.proofs.faults_in.Reads as reads
-use Rattle.slots.proofs.faults_in.Lts as lts
-use Rattle.slots.proofs.fault_of.Reads as fault-of-reads
 
 abbrev Inv-loop : tie.InvT-loop
 Inv-loop order n slots bad₀ i₀ bad i = (i ≤ n) × ((bad ≤ i) × (bad ≡ faults slots (take i order)))

@@ -1,13 +1,9 @@
+-- `slots::fill` meets its contract. Assumes nothing.
 use mathlib.Core.Path.{ap}
 use lib.ListN.{set}
 use borrow.Author.Needs.{needs}
 use Rattle.slots.proofs.fill.Statement.{statement}
 use Rattle.slots.proofs.fill.Tie as tie
-use Rattle.slots.proofs.fill.Reads as reads
-use Rattle.slots.proofs.fill.Lts as lts
-use Rattle.slots.proofs.entry_of.Reads as entry-of-reads
-use Rattle.slots.proofs.length_of.Reads as length-of-reads
-use Rattle.slots.proofs.slot_of.Reads as slot-of-reads
 
 mul-entry : tie.Need-mul-entry
 mul-entry c = search needs

@@ -1,3 +1,4 @@
+-- `slots::fitting` meets its contract: each test is one of `fits`. Assumes nothing.
 use native.Mathlib.Omega.{arith}
 use native.Mathlib.Nat.{mul-le-mul}
 use lib.ListN.{length}
@@ -6,9 +7,6 @@ use Rattle.slots.specs.Pool.{fits}
 use borrow.Author.Needs.{needs}
 use Rattle.slots.proofs.fitting.Statement.{statement}
 use Rattle.slots.proofs.fitting.Tie as tie
-use Rattle.slots.proofs.fitting.Reads as reads
-use Rattle.slots.proofs.fitting.Lts as lts
-use Rattle.slots.proofs.faults_in.Reads as faults-in-reads
 
 returns : tie.Need-returns
 unfolding fits

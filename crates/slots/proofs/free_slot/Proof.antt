@@ -1,3 +1,4 @@
+-- `slots::free_slot` meets its contract. The marks below i are set. Assumes nothing.
 use Prim.Native.Nat.{ℕ, _-_, _≤_, _<_}
 use native.Mathlib.Omega.{arith}
 use mathlib.Core.Path.{_≡_}
@@ -6,9 +7,6 @@ use borrow.Author.Count.{below-more}
 use Rattle.slots.proofs.Marking.{found, not-found}
 use Rattle.slots.proofs.free_slot.Statement.{statement}
 use Rattle.slots.proofs.free_slot.Tie as tie
-use Rattle.slots.proofs.free_slot.Reads as reads
-use Rattle.slots.proofs.free_slot.Lts as lts
-use Rattle.slots.proofs.set_blocks.Reads as set-blocks-reads
 
 abbrev Inv-loop : tie.InvT-loop
 Inv-loop marks slots i₀ i = (i ≤ slots) × ((k : ℕ) → k < i → getD marks k 0 ≡ 0 → ⊥)

@@ -1,15 +1,13 @@
+-- `slots::mark` meets its contract. Marking the entries from i on, on the marks as they are then, gives what marking all of them gives. Assumes nothing.
 use native.Mathlib.Omega.{arith}
-use Prim.Native.Nat.{ℕ, _+_, _-_, _*_, _/_, _%_, _≤_, _<_}
-use mathlib.Core.Path.{_≡_, refl, sym, ap, _∙_}
-use lib.ListN.{length, take, drop, getD, set, length-set}
+use Prim.Native.Nat.{_+_, _-_, _*_, _≤_, _<_}
+use mathlib.Core.Path.{_≡_, refl, sym, _∙_}
+use lib.ListN.{length, take, drop, getD, length-set}
 use Rattle.slots.specs.Entries.{slotOf}
 use Rattle.slots.specs.Marks.{marked, repeats}
 use Rattle.slots.proofs.Marking.{marked-turn, repeats-turn, marked-end, repeats-end}
 use Rattle.slots.proofs.mark.Statement.{statement}
 use Rattle.slots.proofs.mark.Tie as tie
-use Rattle.slots.proofs.mark.Reads as reads
-use Rattle.slots.proofs.mark.Lts as lts
-use Rattle.slots.proofs.slot_of.Reads as slot-of-reads
 
 abbrev Inv-loop : tie.InvT-loop
 Inv-loop order n marks₀ twice₀ i₀ marks twice i =

@@ -1,11 +1,9 @@
+-- `slots::place` meets its contract: what its calls leave is what `placed` says. Assumes nothing.
 use Rattle.slots.specs.Pool.{lists}
 use Rattle.slots.proofs.Pools.{placed-by}
 use borrow.Author.Needs.{needs}
 use Rattle.slots.proofs.place.Statement.{statement}
 use Rattle.slots.proofs.place.Tie as tie
-use Rattle.slots.proofs.place.Reads as reads
-use Rattle.slots.proofs.place.Lts as lts
-use Rattle.slots.proofs.entry_of.Reads as entry-of-reads
 
 put-record-requires : tie.Need-put-record-requires
 put-record-requires c κs = search needs

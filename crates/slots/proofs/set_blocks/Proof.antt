@@ -1,3 +1,4 @@
+-- `slots::set_blocks` meets its contract. The marks below i are set. Assumes nothing.
 use Prim.Native.Nat.{ℕ, _-_, _≤_, _<_}
 use native.Mathlib.Omega.{arith}
 use mathlib.Core.Path.{_≡_}
@@ -6,9 +7,6 @@ use borrow.Author.Tests.{not-false}
 use Rattle.slots.proofs.Marking.{more-set}
 use Rattle.slots.proofs.set_blocks.Statement.{statement}
 use Rattle.slots.proofs.set_blocks.Tie as tie
-use Rattle.slots.proofs.set_blocks.Reads as reads
-use Rattle.slots.proofs.set_blocks.Lts as lts
-use Rattle.slots.proofs.all_set.Reads as all-set-reads
 
 abbrev Inv-loop : tie.InvT-loop
 Inv-loop marks slots i₀ i = (i ≤ slots) × ((k : ℕ) → k < i → getD marks k 0 ≡ 0 → ⊥)

@@ -1,3 +1,4 @@
+-- `slots::well_formed` meets its contract: what fits and repeats no slot is well formed. Assumes nothing.
 use native.Mathlib.Omega.{arith}
 use mathlib.Core.Bool.{true}
 use mathlib.Core.Path.{_≡_, sym, _∙_}
@@ -7,10 +8,6 @@ use Rattle.slots.proofs.Pools.{refused, judged, tested-no, tested-yes, 
 use borrow.Author.Needs.{needs}
 use Rattle.slots.proofs.well_formed.Statement.{statement}
 use Rattle.slots.proofs.well_formed.Tie as tie
-use Rattle.slots.proofs.well_formed.Reads as reads
-use Rattle.slots.proofs.well_formed.Lts as lts
-use Rattle.slots.proofs.fitting.Reads as fitting-reads
-use Rattle.slots.proofs.mark.Reads as mark-reads
 
 fitting-requires : tie.Need-fitting-requires
 fitting-requires c κs = search needs
