@@ -8,13 +8,25 @@ use lib.ListN.{length, take, drop, getD, set, length-append, length-drop, length
 use lib.Seq.{take-at, take-set-lt, length-take-le, getD-take, getD-set-other}
 use Rattle.lent.specs.Order.{inserted, removed, region, orderIn}
 use Rattle.slots.specs.Entries.{total, entryOf, slotOf, lengthOf, inSlot, uses, fault, faults, freeSlot}
-use Rattle.lent.specs.Records.{put}
+use Rattle.lent.specs.Records.{put, loaded}
 use Rattle.slots.specs.Pool.{Lists, lists, Stored, segment, stands, view, numbersAt, lengthsAt, Pool, placed, takenOut, dropped, longer, grown, filled, renewed}
 use Rattle.lent.proofs.Moves.{length-removed}
-use Rattle.slots.proofs.Totals.{total-at, total-set, total-inserted, total-removed, total-split, slot-entry, length-entry, in-own, in-other, slots-below, lengths-fit, fault-none}
+use Rattle.slots.proofs.Totals.{total-at, total-set, total-inserted, total-removed, total-split, slot-entry, length-entry, in-own, in-other, slots-below, lengths-fit, fault-none, faults-empty, uses-none}
 use Rattle.slots.proofs.Free.{lowest, free-in}
 use Rattle.lent.proofs.Rows.{row-in, part-length, stored-length, loaded-own, loaded-other, loaded-joined, loaded-put, loaded-number}
 use Rattle.lent.proofs.Regions.{length-inserted, map-same, region-same, region-but, region-one, in-within, in-behind, in-before, out-within, out-behind, out-before, from-before, from-within, set-within, set-behind, set-before}
+
+-- ---- every slot is free: old contents are no fault
+
+pub empty-pool : (w : ℕ) (p : Lists) → length (p .order) ≤ 65535 → length (p .records) ≡ length (p .order) * w → length (p .room) ≡ length (p .order) * 1476 → Pool w 0 p
+empty-pool w p a b c = record {
+  many = omega arith;
+  slots = a;
+  records-size = b;
+  room-size = c;
+  sound = faults-empty (length (p .order));
+  once = λ s. let z = uses-none s in omega arith;
+}
 
 -- ---- what is known of the entry at place i of the n in use
 
@@ -122,6 +134,15 @@ module _ (w n : ℕ) (p : Lists) (i s : ℕ) (new : Stored) (x : Pool w n p) (fr
         loaded-other 1476 (p .room) s 0 (new .payload) (omega arith) room-row (slotOf (getD (p .order) j 0)) 0 (lengthOf (getD (p .order) j 0)) d (omega arith),
       )
 
+  -- every other slot keeps its record and its bytes
+  pub placed-else : (t : ℕ) → (t ≡ s → ⊥)
+      → (loaded w (placed w n p i s new .records) t 0 w ≡ loaded w (p .records) t 0 w) × (loaded 1476 (placed w n p i s new .room) t 0 1476 ≡ loaded 1476 (p .room) t 0 1476)
+  unfolding placed
+  placed-else t d = (
+    loaded-other w (p .records) s 0 (new .numbers) (omega arith) record-row t 0 w d (omega arith),
+    loaded-other 1476 (p .room) s 0 (new .payload) (omega arith) room-row t 0 1476 d (omega arith),
+  )
+
   pub placed-order : placed w n p i s new .order ≡ orderIn (p .order) n i entry
   unfolding placed
   placed-order = refl
@@ -200,8 +221,8 @@ module _ (w n : ℕ) (p : Lists) (i s : ℕ) (new : Stored) (x : Pool w n p) (fr
       }
 
 -- the lowest free slot may be the one
-pub free-slot-in : (w n : ℕ) (p : Lists) → Pool w n p → n < length (p .order) → freeSlot (take n (p .order)) < length (p .order)
-free-slot-in w n p x h = free-in (p .order) n h
+pub free-slot-in : (n : ℕ) (p : Lists) → n < length (p .order) → freeSlot (take n (p .order)) < length (p .order)
+free-slot-in n p h = free-in (p .order) n h
 
 pub free-slot-free : (n : ℕ) (p : Lists) → uses (freeSlot (take n (p .order))) (take n (p .order)) ≡ 0
 free-slot-free n p = lowest (take n (p .order)) .free

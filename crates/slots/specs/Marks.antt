@@ -1,4 +1,4 @@
--- A mark for each slot: 0 where it is free. Assumes nothing.
+-- "Freed slots are used again." A mark for each slot: 0 where it is free. Assumes nothing.
 use Prim.Native.Nat.{ℕ, suc, _+_}
 use mathlib.Core.List.{List, [], _∷_}
 use lib.ListN.{getD, set}
