@@ -8,7 +8,7 @@ use lib.ListN.{length, take, drop, getD, set, length-append, length-drop, length
 use lib.Seq.{take-at, take-set-lt, length-take-le, getD-take, getD-set-other}
 use Rattle.lent.specs.Order.{inserted, removed, region, orderIn}
 use Rattle.slots.specs.Entries.{total, entryOf, slotOf, lengthOf, inSlot, uses, fault, faults, freeSlot}
-use Rattle.lent.specs.Records.{put, loaded}
+use Rattle.lent.specs.Records.{put, loaded, numberAt}
 use Rattle.slots.specs.Pool.{Lists, lists, Stored, segment, stands, view, numbersAt, lengthsAt, Pool, placed, takenOut, dropped, longer, grown, filled, renewed}
 use Rattle.lent.proofs.Moves.{length-removed}
 use Rattle.slots.proofs.Totals.{total-at, total-set, total-inserted, total-removed, total-split, slot-entry, length-entry, in-own, in-other, slots-below, lengths-fit, fault-none, faults-empty, uses-none}
@@ -73,16 +73,31 @@ module _ (w n : ℕ) (p : Lists) (x : Pool w n p) where
         let u = total-at (inSlot s) (set (take n (p .order)) i (suc s)) j (rw length-set (omega arith)) in
         omega arith
 
+-- ---- what stands in an entry, as `get_record`, `number_at` and `get_payload` read it
+
+module _ (w : ℕ) (p : Lists) (e : ℕ) where
+  pub stands-numbers : stands w p e .numbers ≡ loaded w (p .records) (slotOf e) 0 w
+  unfolding stands
+  stands-numbers = refl
+
+  pub stands-number : (k : ℕ) → k < w → getD (stands w p e .numbers) k 0 ≡ numberAt w (p .records) (slotOf e) k
+  unfolding stands
+  stands-number k h = loaded-number w (p .records) (slotOf e) w k h
+
+  pub stands-payload : stands w p e .payload ≡ loaded 1476 (p .room) (slotOf e) 0 (lengthOf e)
+  unfolding stands
+  stands-payload = refl
+
 -- ---- projections of the view
 
 pub view-numbers : (w : ℕ) (p : Lists) (k from count : ℕ) → k < w → map (λ (s : Stored). getD (s .numbers) k 0) (view w p from count) ≡ numbersAt w p k from count
-unfolding region stands
+unfolding region
 view-numbers w p k from count h =
     map-map (λ (s : Stored). getD (s .numbers) k 0) (stands w p) (take count (drop from (p .order)))
-    ∙ map-same _ _ (take count (drop from (p .order))) (λ i q. loaded-number w (p .records) _ w k h)
+    ∙ map-same _ _ (take count (drop from (p .order))) (λ i q. stands-number w p _ k h)
 
 module _ (w n : ℕ) (p : Lists) (x : Pool w n p) where
-  payload-length : (i : ℕ) → i < n → length (stands w p (getD (p .order) i 0) .payload) ≡ lengthOf (getD (p .order) i 0)
+  pub payload-length : (i : ℕ) → i < n → length (stands w p (getD (p .order) i 0) .payload) ≡ lengthOf (getD (p .order) i 0)
   unfolding stands
   payload-length i k =
       let r = room-in w n p x i k in

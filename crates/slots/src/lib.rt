@@ -1,9 +1,8 @@
 // Lent slot pools: the first n entries of `order` are the slots in use, each with its payload's length.
 ghost use mathlib.Core.Path.{_≡_};
-ghost use mathlib.Core.Bool.{true, false};
-ghost use mathlib.Core.List.{List, [], _∷_, _++_};
-ghost use Prim.Native.Nat.{ℕ, _+_, _-_, _*_, _<_, _≤_};
-ghost use lib.ListN.{length, take, drop, getD, set, replicate};
+ghost use mathlib.Core.Bool.{true};
+ghost use Prim.Native.Nat.{ℕ, _+_, _*_, _<_, _≤_};
+ghost use lib.ListN.{length, take, getD, set, replicate};
 ghost use Rattle.slots.specs.Entries.{entryOf, slotOf, lengthOf, fault, faults};
 ghost use Rattle.slots.specs.Marks.{marked, repeats, firstFree};
 ghost use Rattle.lent.specs.Records.{stored};
@@ -103,7 +102,7 @@ fn mark(order: &[u32], n: usize, marks: &mut [u8]) -> usize
     twice
 }
 
-// Whether the pool is well formed; where it is, the marks tell the slots in use.
+// Whether the pool is well formed. Where the sizes agree and each entry fits, it leaves the slots in use marked, and else the marks as they are.
 pub fn well_formed(
     order: &[u32],
     records: &[u32],
@@ -175,7 +174,7 @@ pub fn free_slot(marks: &[u8], slots: usize) -> usize
     i
 }
 
-// Puts a segment into a slot, and its entry in at place `at` of the n in use.
+// Puts a segment into a slot, and its entry in at place `at` of the n in use; every other slot stays.
 pub fn place(
     order: &mut [u32],
     records: &mut [u32],
@@ -201,7 +200,7 @@ pub fn place(
     lent::put_in(order, n, at, entry_of(slot, src.len()));
 }
 
-// Puts src behind the payload of the entry at place `at`, and renews the entry's length.
+// Puts src behind the payload of the entry at place `at`, and renews the entry's length; all else stays.
 pub fn fill(order: &mut [u32], room: &mut [u8], at: usize, src: &[u8])
     requires { ⌜ at < length (now order) ⌝ }
     requires { ⌜ slotOf (getD (now order) at 0) * 1476 + 1476 ≤ length (now room) ⌝ }
