@@ -110,6 +110,13 @@ module _ (w n : ℕ) (p : Lists) (x : Pool w n p) where
       map-map (λ (s : Stored). length (s .payload)) (stands w p) (take count (drop from (p .order)))
       ∙ region-same (λ (e : ℕ). length (stands w p e .payload)) lengthOf (p .order) from count (let m = x .many in omega arith) (λ i q. payload-length (from + i) (omega arith))
 
+-- so what a view is after a step says what its numbers and its lengths are
+pub numbers-by : (w : ℕ) (p : Lists) (k from count : ℕ) (v : List Stored) → k < w → view w p from count ≡ v → numbersAt w p k from count ≡ map (λ (s : Stored). getD (s .numbers) k 0) v
+numbers-by w p k from count v h e = sym (view-numbers w p k from count h) ∙ ap (map (λ (s : Stored). getD (s .numbers) k 0)) e
+
+pub lengths-by : (w n : ℕ) (p : Lists) → Pool w n p → (from count : ℕ) (v : List Stored) → from + count ≤ n → view w p from count ≡ v → lengthsAt p from count ≡ map (λ (s : Stored). length (s .payload)) v
+lengths-by w n p x from count v h e = sym (view-lengths w n p x from count h) ∙ ap (map (λ (s : Stored). length (s .payload))) e
+
 -- ---- a segment is put into a free slot s, and its entry in at place i
 
 module _ (w n : ℕ) (p : Lists) (i s : ℕ) (new : Stored) (x : Pool w n p) (free : n < length (p .order)) (at : i ≤ n) (in-pool : s < length (p .order)) (unused : uses s (take n (p .order)) ≡ 0)
