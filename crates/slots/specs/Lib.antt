@@ -1,0 +1,4 @@
+pub mod Entries
+pub mod Marks
+pub mod Pool
+pub mod Examples
