@@ -1,11 +1,14 @@
 // The functions that a host in C or Rust links. A slice is a pointer and a length; a place for a number is a pointer to it.
 ghost use mathlib.Core.Path.{_≡_};
 ghost use Prim.Native.Nat.{min, max};
+ghost use lib.ListN.{length};
 ghost use Rattle.serial.specs.Wrap.{timediff};
 ghost use Rattle.wire.specs.Header.{convOf, snOf, headerAt, headerBytes};
 ghost use Rattle.wire.specs.Helpers.{got, putOf, numberOfPut, withConv};
 ghost use Rattle.estimator.specs.Estimate.{measured};
+ghost use Rattle.slots.specs.Pool.{lists};
 ghost use Rattle.kcp_c.specs.Told.{Told};
+ghost use Rattle.kcp_c.specs.Pools.{PoolTold, payloadPut, payloadGot, payloadAnswer};
 ghost use Rattle.kcp_c.specs.Numbers.{header, headerNumbers, estimator, estimatorNumbers};
 use estimator::Estimator;
 use wire::Header;
@@ -125,4 +128,61 @@ pub extern "C" fn kcp_measured(e: &mut [u32; 4], rtt: u32, interval: u32)
     };
     let r = before.measured(rtt, interval);
     *e = [r.srtt, r.rttval, r.rto, r.minrto];
+}
+
+// Whether a pool of at most 1,024 slots, with records of at most 64 numbers, is well formed with n slots in use: 0, or 15.
+#[no_mangle]
+pub extern "C" fn kcp_pool_test(
+    order: &[u32],
+    records: &[u32],
+    room: &[u8],
+    width: usize,
+    n: usize,
+) -> u32
+    ensures { λ r. ⌜ PoolTold width n (lists (now (order .entry)) (now (records .entry)) (now (room .entry))) r ⌝ }
+{
+    if order.len() > 1024 {
+        return 15;
+    }
+    if width > 64 {
+        return 15;
+    }
+    let mut marks = [0u8; 1024];
+    if slots::well_formed(order, records, room, width, n, &mut marks) {
+        return 0;
+    }
+    15
+}
+
+// Copies src into a slot's bytes: 0, or 15 where it does not fit, which leaves all. To measure the copy.
+#[no_mangle]
+pub extern "C" fn kcp_payload_put(room: &mut [u8], slot: usize, src: &[u8]) -> u32
+    ensures { λ r. ⌜ r ≡ payloadAnswer (now (room .entry)) slot (length (now (src .entry))) ⌝ }
+    ensures { λ _. ⌜ now (room .exit) ≡ payloadPut (now (room .entry)) slot (now (src .entry)) ⌝ }
+{
+    if src.len() > 1476 {
+        return 15;
+    }
+    if slot >= room.len() / 1476 {
+        return 15;
+    }
+    lent::put_payload(room, slot, 0, src);
+    0
+}
+
+// Copies a slot's bytes into the whole of out: 0, or 15 where there are not as many, which leaves all. To measure the copy.
+#[no_mangle]
+pub extern "C" fn kcp_payload_get(room: &[u8], slot: usize, out: &mut [u8]) -> u32
+    ensures { λ r. ⌜ r ≡ payloadAnswer (now (room .entry)) slot (length (now (out .entry))) ⌝ }
+    ensures { λ _. ⌜ now (out .exit) ≡ payloadGot (now (room .entry)) slot (now (out .entry)) ⌝ }
+{
+    let n = out.len();
+    if n > 1476 {
+        return 15;
+    }
+    if slot >= room.len() / 1476 {
+        return 15;
+    }
+    lent::get_payload(room, slot, n, out, 0);
+    0
 }
