@@ -12,7 +12,22 @@ pub const HAS: [&str; 7] =
 pub fn apply(_: &driver::call::Call, _: &mut driver::side::Outcome) {}
 
 #[cfg(kcp_c)]
-pub use linked::apply;
+pub use linked::{apply, payload_get, payload_put, pool_test};
+
+#[cfg(not(kcp_c))]
+pub fn pool_test(_: &[u32], _: &[u32], _: &[u8], _: usize, _: usize) -> u32 {
+    0
+}
+
+#[cfg(not(kcp_c))]
+pub fn payload_put(_: &mut [u8], _: usize, _: &[u8]) -> u32 {
+    0
+}
+
+#[cfg(not(kcp_c))]
+pub fn payload_get(_: &[u8], _: usize, _: &mut [u8]) -> u32 {
+    0
+}
 
 #[cfg(kcp_c)]
 mod linked {
@@ -29,6 +44,32 @@ mod linked {
         fn kcp_header_bytes(out: *mut [u8; 24], conv: u32, cmd: u8, frg: u8, wnd: u16, ts: u32, sn: u32, una: u32, len: u32);
         fn kcp_header_numbers(bytes: *const [u8; 24], out: *mut [u32; 8]);
         fn kcp_measured(e: *mut [u32; 4], rtt: u32, interval: u32);
+        fn kcp_pool_test(
+            order: *const u32,
+            slots: usize,
+            records: *const u32,
+            numbers: usize,
+            room: *const u8,
+            bytes: usize,
+            width: usize,
+            n: usize,
+        ) -> u32;
+        fn kcp_payload_put(room: *mut u8, bytes: usize, slot: usize, src: *const u8, len: usize) -> u32;
+        fn kcp_payload_get(room: *const u8, bytes: usize, slot: usize, out: *mut u8, len: usize) -> u32;
+    }
+
+    /// Whether a pool is well formed with n slots in use: 0, or 15.
+    pub fn pool_test(order: &[u32], records: &[u32], room: &[u8], width: usize, n: usize) -> u32 {
+        let (o, k, r) = (order.as_ptr(), records.as_ptr(), room.as_ptr());
+        unsafe { kcp_pool_test(o, order.len(), k, records.len(), r, room.len(), width, n) }
+    }
+
+    pub fn payload_put(room: &mut [u8], slot: usize, src: &[u8]) -> u32 {
+        unsafe { kcp_payload_put(room.as_mut_ptr(), room.len(), slot, src.as_ptr(), src.len()) }
+    }
+
+    pub fn payload_get(room: &[u8], slot: usize, out: &mut [u8]) -> u32 {
+        unsafe { kcp_payload_get(room.as_ptr(), room.len(), slot, out.as_mut_ptr(), out.len()) }
     }
 
     fn refused(number: u32) -> Answer {

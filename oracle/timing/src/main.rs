@@ -2,6 +2,7 @@
 
 mod clock;
 mod held;
+mod lent;
 mod ours;
 mod rows;
 mod rust;
@@ -20,13 +21,16 @@ static ALLOCATOR: held::Counting = held::Counting;
 /// What was found of one row: the Rust's figures and the port's, if it has the calls.
 struct Line {
     name: &'static str,
-    rust: Figures,
+    rust: Option<Figures>,
     ours: Option<Figures>,
 }
 
 impl Line {
     fn ratio(&self) -> Option<f64> {
-        self.ours.map(|ours| ours.least / self.rust.least)
+        match (self.rust, self.ours) {
+            (Some(rust), Some(ours)) => Some(ours.least / rust.least),
+            _ => None,
+        }
     }
 }
 
@@ -44,7 +48,8 @@ fn main() {
     }
     let held = held::figures();
     let lines = time_all(progress);
-    let text = if csv { as_csv(&lines, &held) } else { as_tables(&lines, &held) };
+    let lent = time_lent();
+    let text = if csv { as_csv(&lines, &held, &lent) } else { as_tables(&lines, &held, &lent) };
     // In one piece and at the end, so that whoever reads it gets all or nothing.
     if let Err(error) = std::io::stdout().write_all(text.as_bytes()) {
         give_up(&format!("the table could not be written: {}", error));
@@ -62,8 +67,10 @@ fn time_all(progress: bool) -> Vec<Line> {
             eprint!("\r\x1b[Kbench: row {} of {}, {}", i + 1, count, name);
         }
         let figures = clock::rounds(vec![rust.ready(), ours.ready()], clock);
-        let rust = figures[0].unwrap_or_else(|| give_up("the Rust was not timed"));
-        lines.push(Line { name, rust, ours: figures[1] });
+        if figures[0].is_none() {
+            give_up("the Rust was not timed");
+        }
+        lines.push(Line { name, rust: figures[0], ours: figures[1] });
     }
     if progress {
         eprint!("\r\x1b[K");
@@ -71,14 +78,32 @@ fn time_all(progress: bool) -> Vec<Line> {
     lines
 }
 
-fn as_csv(lines: &[Line], held: &[(&str, usize)]) -> String {
+/// The lent memory by itself: the first side is a plain copy, where there is one to compare with.
+fn time_lent() -> Vec<Line> {
+    let clock = clock::cost();
+    let time = |(name, plain, ours)| {
+        let figures = clock::rounds(vec![plain, Some(ours)], clock);
+        Line { name, rust: figures[0], ours: figures[1] }
+    };
+    lent::all().into_iter().map(time).collect()
+}
+
+fn csv_figures(text: &mut String, figures: Option<Figures>) {
+    let _ = match figures {
+        Some(Figures { least, median }) => write!(text, "{:.1},{:.1},", least, median),
+        None => write!(text, ",,"),
+    };
+}
+
+fn as_csv(lines: &[Line], held: &[(&str, usize)], lent: &[Line]) -> String {
     let mut text = String::new();
-    for line in lines {
-        let Figures { least, median } = line.rust;
-        let _ = write!(text, "{},{:.1},{:.1},", line.name, least, median);
-        let _ = match (line.ours, line.ratio()) {
-            (Some(ours), Some(ratio)) => writeln!(text, "{:.1},{:.1},{:.2}", ours.least, ours.median, ratio),
-            _ => writeln!(text, ",,"),
+    for line in lines.iter().chain(lent) {
+        let _ = write!(text, "{},", line.name);
+        csv_figures(&mut text, line.rust);
+        csv_figures(&mut text, line.ours);
+        let _ = match line.ratio() {
+            Some(ratio) => writeln!(text, "{:.2}", ratio),
+            None => writeln!(text),
         };
     }
     for (name, bytes) in held {
@@ -91,21 +116,29 @@ fn as_csv(lines: &[Line], held: &[(&str, usize)]) -> String {
     text
 }
 
-fn as_tables(lines: &[Line], held: &[(&str, usize)]) -> String {
-    let titles = ["Rust least", "median", "ours least", "median"];
-    let mut text = format!("{:28}", "row, ns");
-    for title in &titles {
-        let _ = write!(text, "{:>12}", title);
-    }
-    let _ = writeln!(text, "{:>8}", "ratio");
+fn table_figures(text: &mut String, figures: Option<Figures>, none: &str) {
+    let _ = match figures {
+        Some(Figures { least, median }) => write!(text, "{:12.1}{:12.1}", least, median),
+        None => write!(text, "{:>12}{:>12}", none, ""),
+    };
+}
+
+fn table(text: &mut String, title: &str, first: &str, lines: &[Line], none: [&str; 2]) {
+    let _ = writeln!(text, "{:28}{:>12}{:>12}{:>12}{:>12}{:>8}", title, first, "median", "ours least", "median", "ratio");
     for line in lines {
-        let Figures { least, median } = line.rust;
-        let _ = write!(text, "{:28}{:12.1}{:12.1}", line.name, least, median);
-        let _ = match (line.ours, line.ratio()) {
-            (Some(ours), Some(ratio)) => writeln!(text, "{:12.1}{:12.1}{:8.2}", ours.least, ours.median, ratio),
-            _ => writeln!(text, "{:>12}", "not yet"),
+        let _ = write!(text, "{:28}", line.name);
+        table_figures(text, line.rust, none[0]);
+        table_figures(text, line.ours, none[1]);
+        let _ = match line.ratio() {
+            Some(ratio) => writeln!(text, "{:8.2}", ratio),
+            None => writeln!(text),
         };
     }
+}
+
+fn as_tables(lines: &[Line], held: &[(&str, usize)], lent: &[Line]) -> String {
+    let mut text = String::new();
+    table(&mut text, "row, ns", "Rust least", lines, ["", "not yet"]);
     let _ = writeln!(text, "\n{:28}{:>12}{:>24}", "bytes a connection", "Rust", "ours");
     for (name, bytes) in held {
         let _ = write!(text, "{:28}{:12}", name, bytes);
@@ -114,7 +147,11 @@ fn as_tables(lines: &[Line], held: &[(&str, usize)]) -> String {
             None => writeln!(text, "{:>24}", "not yet"),
         };
     }
-    // Both tables depend on it: on its code, and on how its library's lists grow.
+    if !lent.is_empty() {
+        text.push('\n');
+        table(&mut text, "lent memory, ns", "plain least", lent, ["-", ""]);
+    }
+    // All depend on it: on its code, and on how its library's lists grow.
     let _ = writeln!(text, "\nThe Rust built by {}", option_env!("BUILT_BY").unwrap_or("an unknown compiler"));
     text
 }
