@@ -3,12 +3,13 @@ use mathlib.Core.Path.{_≡_, refl}
 use Prim.Native.Nat.{ℕ, zero, suc, _+_, _≤_, _<_}
 use native.Mathlib.Omega.{arith}
 use native.Mathlib.Decide.{ℕ-discrete}
+use mathlib.Core.Bool.{cond}
 use mathlib.Core.List.{List, [], _∷_}
 use lib.ListN.{length, take}
 use lib.Seq.{length-take-le}
 use lib.Dec.{eqb}
 use borrow.Author.Tests.{eq-eqb, ne-eqb}
-use Rattle.slots.specs.Entries.{slotOf, pick, uses, freeFrom, freeSlot}
+use Rattle.slots.specs.Entries.{slotOf, uses, freeFrom, freeSlot}
 use Rattle.slots.proofs.Totals.{uses-none, uses-own, uses-other}
 
 -- how many entries of l are in slots below k
@@ -81,7 +82,7 @@ free-from zero v l h b = go (ℕ-discrete (uses v l) 0)
     go (no n) = let a = full (suc v) l (more v l n b) in absurd (omega arith)
 free-from (suc f) v l h b = go (ℕ-discrete (uses v l) 0) (λ c. free-from f (suc v) l (omega arith) c)
   where
-    go : Dec (uses v l ≡ 0) → (Full (suc v) l → Lowest l (freeFrom f (suc v) l)) → Lowest l (pick (eqb (uses v l) 0) v (freeFrom f (suc v) l))
+    go : Dec (uses v l ≡ 0) → (Full (suc v) l → Lowest l (freeFrom f (suc v) l)) → Lowest l (cond (eqb (uses v l) 0) v (freeFrom f (suc v) l))
     go (yes e) r = rw (eq-eqb (uses v l) 0 e) (record { free = e; least = b })
     go (no n) r = rw (ne-eqb (uses v l) 0 n) (r (more v l n b))
 

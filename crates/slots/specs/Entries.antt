@@ -1,6 +1,6 @@
 -- "Payload slot: 1,476 bytes." An entry of a pool's order carries a slot and the length of the payload in it: length * 65536 + slot. Assumes nothing.
 use Prim.Native.Nat.{ℕ, zero, suc, _+_, _*_, _/_, _%_}
-use mathlib.Core.Bool.{Bool, true, false, _&&_}
+use mathlib.Core.Bool.{cond, _&&_}
 use mathlib.Core.List.{List, [], _∷_}
 use lib.ListN.{length}
 use lib.Dec.{eqb, ltb, leb}
@@ -19,13 +19,9 @@ slotOf e = e % 65536
 abbrev pub lengthOf : ℕ → ℕ
 lengthOf e = e / 65536
 
-abbrev pub pick : {A : Type 0} → Bool → A → A → A
-pick true a b = a
-pick false a b = b
-
 -- 1 where entry e is in slot s
 unfoldable pub inSlot : ℕ → ℕ → ℕ
-inSlot s e = pick (eqb (slotOf e) s) 1 0
+inSlot s e = cond (eqb (slotOf e) s) 1 0
 
 -- how many of the entries are in slot s
 unfoldable pub uses : ℕ → List ℕ → ℕ
@@ -33,7 +29,7 @@ uses s l = total (inSlot s) l
 
 -- 0 where the entry names one of the slots and a length that fits it, and else 1
 unfoldable pub fault : ℕ → ℕ → ℕ
-fault slots e = pick (ltb (slotOf e) slots && leb (lengthOf e) 1476) 0 1
+fault slots e = cond (ltb (slotOf e) slots && leb (lengthOf e) 1476) 0 1
 
 -- how many of the entries do not
 unfoldable pub faults : ℕ → List ℕ → ℕ
@@ -42,7 +38,7 @@ faults slots l = total (fault slots) l
 -- the lowest of the slots v, v + 1 .. v + f that no entry is in; v + f where each before it has one
 unfoldable pub freeFrom : ℕ → ℕ → List ℕ → ℕ
 freeFrom zero v l = v
-freeFrom (suc f) v l = pick (eqb (uses v l) 0) v (freeFrom f (suc v) l)
+freeFrom (suc f) v l = cond (eqb (uses v l) 0) v (freeFrom f (suc v) l)
 
 -- the lowest free slot
 unfoldable pub freeSlot : List ℕ → ℕ

@@ -1,13 +1,13 @@
 -- "every slot of a pool is in exactly one of free, queue, buffer; payloads at most 1,476 bytes". A pool of w numbers a slot in lent lists:
 -- the first n entries of the order, front region and then back region, are what is in use; every other slot is free. Assumes nothing.
 use Prim.Native.Nat.{ℕ, _+_, _*_, _≤_}
-use mathlib.Core.Bool.{Bool, _&&_}
+use mathlib.Core.Bool.{Bool, cond, _&&_}
 use mathlib.Core.Path.{_≡_}
 use mathlib.Core.List.{List, _++_}
 use lib.ListN.{length, take, getD, set}
 use lib.Dec.{eqb, leb}
 use Rattle.lent.specs.Order.{region, orderIn, orderOut, orderFrom}
-use Rattle.slots.specs.Entries.{entryOf, slotOf, lengthOf, pick, uses, faults}
+use Rattle.slots.specs.Entries.{entryOf, slotOf, lengthOf, uses, faults}
 use Rattle.slots.specs.Marks.{marked}
 use Rattle.lent.specs.Records.{stored, loaded, numberAt}
 
@@ -62,7 +62,7 @@ fits w n p =
 
 -- the marks m after the test
 unfoldable pub tested : ℕ → ℕ → Lists → List ℕ → List ℕ
-tested w n p m = pick (fits w n p) (marked m (take n (p .order))) m
+tested w n p m = cond (fits w n p) (marked m (take n (p .order))) m
 
 -- x is put into slot s, and its entry in at place i of the n in use
 unfoldable pub placed : ℕ → ℕ → Lists → ℕ → ℕ → Stored → Lists
