@@ -80,7 +80,9 @@ build_port() {
     newer=
     [ ! -f "$library" ] || newer=$(find "$root/crates" "$root/crates.txt" -newer "$library" -type f | head -n 1)
     if [ ! -f "$library" ] || [ -n "$newer" ]; then
+        [ ! -t 2 ] || printf '\r\033[Kbuilding the port ..' >&2
         "$root/build" >"$build/port.log" 2>&1 || { cat "$build/port.log" >&2 && stop "the port did not build"; }
+        [ ! -t 2 ] || printf '\r\033[K' >&2
     fi
     KCP_C=$root/target/staticlib
     export KCP_C
@@ -89,7 +91,9 @@ build_port() {
 # Builds the judge, the copy that stands in for the port, and the drivers.
 build_all() {
     build_port
+    [ ! -t 2 ] || printf '\r\033[Kbuilding the drivers ..' >&2
     write_judge "$build/judge" kcp_judge
     write_judge "$build/other" kcp_other
     cargo_in run build --release && cargo_in timing build --release || stop "the drivers did not build"
+    [ ! -t 2 ] || printf '\r\033[K' >&2
 }

@@ -1,5 +1,6 @@
 //! The calls, and their form as lines of a script: what `compare` prints, `compare --replay` reads.
 
+use crate::domain::LONGEST;
 use std::fmt::{self, Display, Formatter};
 
 /// A payload of which only the length and a seed are written down.
@@ -76,9 +77,22 @@ pub enum Tuned {
     Incr,
     Ssthresh,
     RxRto,
+    /// snd_nxt, so far past snd_una: one segment stuck and the rest acked.
+    Ahead,
     Fastack(usize),
     Xmit(usize),
     Rto(usize),
+}
+
+impl Tuned {
+    /// The largest number that the field holds.
+    fn most(self) -> u64 {
+        match self {
+            Tuned::Cwnd | Tuned::Ssthresh => u16::MAX as u64,
+            Tuned::Incr => u64::MAX,
+            _ => u32::MAX as u64,
+        }
+    }
 }
 
 #[derive(Clone, PartialEq, Eq, Debug)]
@@ -235,6 +249,7 @@ impl Display for Call {
                 Tuned::Incr => write!(f, " incr {}", value),
                 Tuned::Ssthresh => write!(f, " ssthresh {}", value),
                 Tuned::RxRto => write!(f, " rx_rto {}", value),
+                Tuned::Ahead => write!(f, " ahead {}", value),
                 Tuned::Fastack(i) => write!(f, " fastack[{}] {}", i, value),
                 Tuned::Xmit(i) => write!(f, " xmit[{}] {}", i, value),
                 Tuned::Rto(i) => write!(f, " rto[{}] {}", i, value),
@@ -297,7 +312,38 @@ fn unhex(word: Option<&str>) -> Read<Vec<u8>> {
 fn fill(word: Option<&str>) -> Read<Fill> {
     let word = word.ok_or_else(|| "a payload is missing".to_string())?;
     let mut parts = word.splitn(2, '.');
-    Ok(Fill { len: number(parts.next())?, seed: number(parts.next())? })
+    Ok(Fill { len: length(parts.next())?, seed: number(parts.next())? })
+}
+
+/// A length that memory can be had for.
+fn length(word: Option<&str>) -> Read<usize> {
+    let n = number(word)?;
+    if n > LONGEST {
+        return Err(format!("{} bytes are more than a script may name", n));
+    }
+    Ok(n)
+}
+
+fn flag(word: Option<&str>) -> Read<bool> {
+    match word {
+        Some("true") => Ok(true),
+        Some("false") => Ok(false),
+        _ => Err("true or false is wanted".to_string()),
+    }
+}
+
+/// Each word after the first is NAME=VALUE with one of these names, and none stands twice.
+fn only(words: &[&str], names: &[&str]) -> Read<()> {
+    for (i, word) in words.iter().enumerate().skip(1) {
+        let name = word.splitn(2, '=').next().unwrap_or("");
+        if !names.contains(&name) {
+            return Err(format!("'{}' has no place here", word));
+        }
+        if words[..i].iter().any(|w| w.splitn(2, '=').next() == Some(name)) {
+            return Err(format!("'{}' stands twice", name));
+        }
+    }
+    Ok(())
 }
 
 fn named<'a>(words: &[&'a str], name: &str) -> Option<&'a str> {
@@ -334,6 +380,7 @@ fn piece(text: &str) -> Read<Piece> {
     if words.first() == Some(&"raw") {
         return Ok(Piece::Raw(unhex(words.get(1).copied())?));
     }
+    only(&words, &["conv", "frg", "wnd", "ts", "sn", "una", "len", "data"])?;
     let data = match named(&words, "data") {
         Some(w) => fill(Some(w))?,
         None => Fill { len: 0, seed: 0 },
@@ -351,6 +398,7 @@ fn tuned(word: Option<&str>) -> Read<Tuned> {
         "incr" => Ok(Tuned::Incr),
         "ssthresh" => Ok(Tuned::Ssthresh),
         "rx_rto" => Ok(Tuned::RxRto),
+        "ahead" => Ok(Tuned::Ahead),
         "fastack" => Ok(Tuned::Fastack(at()?)),
         "xmit" => Ok(Tuned::Xmit(at()?)),
         "rto" => Ok(Tuned::Rto(at()?)),
@@ -359,10 +407,16 @@ fn tuned(word: Option<&str>) -> Read<Tuned> {
 }
 
 fn start(words: &[&str]) -> Read<Call> {
+    only(words, &["conv", "mode", "rcv", "snd", "slots"])?;
     let slots: Vec<&str> = named(words, "slots").unwrap_or("1024,1024,4096").split(',').collect();
+    let stream = match named(words, "mode") {
+        Some("stream") => true,
+        Some("plain") | None => false,
+        Some(other) => return Err(format!("'{}' is no mode: plain or stream", other)),
+    };
     Ok(Call::Start {
         conv: number(named(words, "conv"))?,
-        stream: named(words, "mode") == Some("stream"),
+        stream,
         rcv: number(named(words, "rcv"))?,
         snd: number(named(words, "snd"))?,
         sizes: Sizes {
@@ -382,15 +436,33 @@ pub fn parse(line: &str) -> Read<Option<Call>> {
         None => return Ok(None),
     };
     let w = |i: usize| words.get(i).copied();
+    let most = match name {
+        "new" | "input" | "encode" => usize::MAX,
+        "estimate" => 7,
+        "set_nodelay" => 5,
+        "bound" => 4,
+        "tune" | "timediff" | "set_wndsize" | "helper_set_conv" => 3,
+        _ => 2,
+    };
+    if words.len() > most {
+        return Err(format!("'{}' has no place here", words[most]));
+    }
     let call = match name {
         "new" => start(&words)?,
-        "tune" => Call::Tune(tuned(w(1))?, number(w(2))?),
+        "tune" => {
+            let what = tuned(w(1))?;
+            let value = number(w(2))?;
+            if value > what.most() {
+                return Err(format!("{} does not fit there", value));
+            }
+            Call::Tune(what, value)
+        }
         "input" => {
             let rest = line[name.len()..].trim();
             let pieces: Read<Vec<Piece>> = rest.split(';').filter(|p| !p.trim().is_empty()).map(piece).collect();
             Call::Input(pieces?)
         }
-        "recv" => Call::Recv(number(w(1))?),
+        "recv" => Call::Recv(length(w(1))?),
         "peeksize" => Call::Peeksize,
         "send" => Call::Send(fill(w(1))?),
         "update" => Call::Update(number(w(1))?),
@@ -400,7 +472,7 @@ pub fn parse(line: &str) -> Read<Option<Call>> {
         "move_buf" => Call::MoveBuf,
         "set_mtu" => Call::SetMtu(number(w(1))?),
         "set_interval" => Call::SetInterval(number(w(1))?),
-        "set_nodelay" => Call::SetNodelay(w(1) == Some("true"), number(w(2))?, number(w(3))?, w(4) == Some("true")),
+        "set_nodelay" => Call::SetNodelay(flag(w(1))?, number(w(2))?, number(w(3))?, flag(w(4))?),
         "set_wndsize" => Call::SetWndsize(number(w(1))?, number(w(2))?),
         "set_rx_minrto" => Call::SetRxMinrto(number(w(1))?),
         "set_fast_resend" => Call::SetFastResend(number(w(1))?),

@@ -3,7 +3,8 @@
 //! A plain random generator hardly leaves the shallow states. So each sequence has a profile, which says how the block is set up
 //! and how often each kind of call comes; and each call is made with the judge's state in sight, so that its numbers fall on edges.
 
-use crate::call::{datagram, Call, Piece, Sizes, LEAVES, PUSH};
+use crate::call::{Call, Piece, Sizes, LEAVES};
+use crate::domain;
 use crate::moves::{self, Move};
 use crate::random::Random;
 use crate::rust_side::Sink;
@@ -38,11 +39,13 @@ pub enum Profile {
     Growth,
     /// A second block at the other end of a line that loses, repeats and reorders.
     Link,
+    /// Lists and pools filled to the brim: acks that are not flushed, segments that are not acked, messages that are not read.
+    Full,
     /// The functions that take numbers and bytes alone.
     Leaves,
 }
 
-pub const PROFILES: [(Profile, &str); 13] = [
+pub const PROFILES: [(Profile, &str); 14] = [
     (Profile::Mixed, "mixed"),
     (Profile::Windows, "windows"),
     (Profile::Fragments, "fragments"),
@@ -55,6 +58,7 @@ pub const PROFILES: [(Profile, &str); 13] = [
     (Profile::Probes, "probes"),
     (Profile::Growth, "growth"),
     (Profile::Link, "link"),
+    (Profile::Full, "full"),
     (Profile::Leaves, "leaves"),
 ];
 
@@ -128,9 +132,17 @@ impl Generator {
         crate::call::Fill { len, seed: self.mark }
     }
 
+    /// Calls that are to follow the next one.
+    pub fn queue(&mut self, calls: Vec<Call>) {
+        self.pending.extend(calls);
+    }
+
     /// The next call, for a block in this state; `None` ends the sequence.
     pub fn next(&mut self, s: &State) -> Option<Call> {
         if let Some(call) = self.pending.pop_front() {
+            if let Call::Update(t) = call {
+                self.clock = t;
+            }
             return Some(call);
         }
         if self.left == 0 {
@@ -139,17 +151,19 @@ impl Generator {
         self.left -= 1;
         if let Some(datagram) = self.delivery() {
             let call = Call::Input(vec![Piece::Raw(datagram)]);
-            if self.on_domain(&call, s) {
+            if domain::leaves(&call, s, self.sizes).is_none() {
                 return Some(call);
             }
         }
-        if s.acklist.len() + 70 > self.sizes.acks && self.random.below(8) > 0 {
+        // with a full list only pushes that are not acknowledged stay on the domain: mostly the list is flushed in time
+        let brim = if self.profile == Profile::Full { 0 } else { 70 };
+        if s.acklist.len() + brim > self.sizes.acks && self.random.below(8) > 0 {
             return Some(if s.updated { Call::FlushAck } else { Call::Update(self.clock) });
         }
         for _ in 0..8 {
             let kind = self.random.weighted(moves::weights(self.profile));
             let call = moves::make(kind, self, s);
-            if self.on_domain(&call, s) {
+            if domain::leaves(&call, s, self.sizes).is_none() {
                 if let Call::Update(t) = call {
                     self.clock = t;
                 }
@@ -190,47 +204,6 @@ impl Generator {
         }
         taken
     }
-
-    /// Whether the call leaves the block on document 01's domain of equality: no answer from 11 on, no push skipped.
-    fn on_domain(&self, call: &Call, s: &State) -> bool {
-        match call {
-            Call::Input(pieces) => {
-                let bytes = datagram(pieces);
-                bytes.len() <= 1500 && s.acklist.len() + pushes(&bytes) <= self.sizes.acks
-            }
-            Call::Send(fill) => send_fits(s, fill.len, self.sizes.send),
-            Call::SetWndsize(_, rcv) => *rcv == 0 || 2 * (*rcv).max(128) as usize <= self.sizes.receive,
-            Call::SetMtu(mtu) => *mtu <= 1500,
-            Call::Recv(_) | Call::Peeksize => s.rcv_queue.first().map_or(true, |x| x.frg != 255),
-            _ => true,
-        }
-    }
-}
-
-/// How many pushes a datagram can hold, at most.
-fn pushes(bytes: &[u8]) -> usize {
-    let mut at = 0;
-    let mut count = 0;
-    while at + 24 <= bytes.len() {
-        count += (bytes[at + 4] == PUSH) as usize;
-        let len = u32::from_le_bytes([bytes[at + 20], bytes[at + 21], bytes[at + 22], bytes[at + 23]]) as usize;
-        at = at.saturating_add(24).saturating_add(len);
-    }
-    count
-}
-
-/// Whether a send gets no answer 12: it is refused by 8, or its segments find slots.
-fn send_fits(s: &State, len: usize, slots: usize) -> bool {
-    let mut rest = len;
-    if s.stream {
-        let last = s.snd_queue.last().map_or(s.mss, |x| x.data.len());
-        rest -= rest.min(s.mss.saturating_sub(last));
-        if rest == 0 {
-            return true;
-        }
-    }
-    let count = ((rest + s.mss - 1) / s.mss).max(1);
-    count >= 128 || s.snd_buf.len() + s.snd_queue.len() + count <= slots
 }
 
 impl Peer {

@@ -1,6 +1,7 @@
 //! Holds two sides, the published Rust and another, to the same calls and compares all that they answer and keep.
 
 pub mod call;
+pub mod domain;
 pub mod generator;
 pub mod moves;
 pub mod random;

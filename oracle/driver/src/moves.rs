@@ -8,6 +8,7 @@ use state::State;
 #[derive(Clone, Copy, PartialEq, Eq, Debug)]
 pub enum Move {
     Push,
+    Big,
     PushRun,
     Ack,
     AckRun,
@@ -44,7 +45,7 @@ pub fn weights(profile: Profile) -> &'static [(Move, u32)] {
     match profile {
         Profile::Mixed => &[
             (Push, 14), (PushRun, 4), (Ack, 10), (AckRun, 3), (Ask, 2), (Tell, 2), (Several, 8), (Bad, 3), (Short, 1), (Recv, 10),
-            (Peek, 2), (MoveBuf, 2), (Send, 12), (SendLong, 1), (Tick, 14), (Leap, 1), (Flush, 4), (FlushAck, 3), (Check, 3),
+            (Peek, 2), (MoveBuf, 2), (Big, 2), (Send, 12), (SendLong, 1), (Tick, 14), (Leap, 1), (Flush, 4), (FlushAck, 3), (Check, 3),
             (Wndsize, 2), (Mtu, 1), (Settings, 2), (Conv, 1), (Getter, 2),
         ],
         Profile::Windows => &[
@@ -54,7 +55,7 @@ pub fn weights(profile: Profile) -> &'static [(Move, u32)] {
             (PushRun, 14), (Push, 10), (Recv, 20), (Peek, 8), (MoveBuf, 2), (FlushAck, 2), (Tick, 2), (Several, 3), (Wndsize, 1),
         ],
         Profile::Stuck => &[
-            (Send, 12), (SendLong, 2), (AckRun, 14), (Ack, 8), (Tick, 8), (Flush, 8), (Several, 2), (Check, 1), (Wndsize, 1), (Settings, 1),
+            (Send, 12), (SendLong, 2), (AckRun, 14), (Ack, 8), (Tick, 8), (Flush, 8), (Several, 2), (Check, 1), (Wndsize, 1), (Settings, 1), (Tune, 4),
         ],
         Profile::Times => &[(Send, 6), (Ack, 6), (AckTimes, 24), (Tick, 8), (Leap, 2), (Flush, 3), (Settings, 2), (Check, 2)],
         Profile::Clock => &[(Leap, 14), (Tick, 8), (Check, 12), (Send, 6), (Ack, 4), (Flush, 2), (Settings, 2), (Tell, 1), (Push, 2)],
@@ -65,9 +66,10 @@ pub fn weights(profile: Profile) -> &'static [(Move, u32)] {
         Profile::Refused => &[
             (Bad, 24), (Several, 8), (Short, 3), (Send, 8), (Tick, 8), (Flush, 3), (Ack, 4), (Push, 4), (Conv, 8), (FlushAck, 2), (Recv, 2),
         ],
-        Profile::Timeouts => &[(Tick, 30), (Send, 4), (Flush, 4), (Check, 6), (Ack, 1), (Settings, 1), (Tune, 1), (Getter, 1)],
+        Profile::Timeouts => &[(Tick, 30), (Send, 4), (Flush, 4), (Check, 6), (Ack, 1), (Settings, 1), (Tune, 3), (Getter, 1)],
         Profile::Probes => &[
-            (Tell, 10), (Ask, 6), (Tick, 20), (Flush, 4), (FlushAck, 4), (Push, 6), (Send, 6), (Check, 3), (Ack, 4), (Leap, 1), (Recv, 3),
+            (Tell, 10), (Ask, 6), (Tick, 20), (Flush, 4), (FlushAck, 4), (Push, 6), (Send, 6), (Check, 3), (Ack, 4), (Leap, 3), (Recv, 3),
+            (Mtu, 1),
         ],
         Profile::Growth => &[
             (Ack, 16), (AckRun, 12), (Send, 14), (Flush, 12), (Tick, 10), (Tune, 6), (Mtu, 3), (Settings, 3), (Several, 3), (Tell, 3),
@@ -76,6 +78,9 @@ pub fn weights(profile: Profile) -> &'static [(Move, u32)] {
         Profile::Link => &[
             (Send, 10), (Tick, 30), (Recv, 12), (Flush, 3), (FlushAck, 3), (Check, 3), (Settings, 1), (Mtu, 1), (Wndsize, 1), (Peek, 1),
             (Getter, 1),
+        ],
+        Profile::Full => &[
+            (PushRun, 300), (Push, 100), (Send, 60), (SendLong, 30), (Big, 20), (Peek, 5), (Wndsize, 2), (Recv, 2), (Flush, 1), (FlushAck, 1),
         ],
         Profile::Leaves => &[(Leaf, 1)],
     }
@@ -86,7 +91,7 @@ pub fn first_calls(g: &mut Generator) -> Vec<Call> {
     let mut calls = Vec::new();
     let r = &mut g.random;
     if r.below(4) > 0 {
-        calls.push(Call::SetMtu(r.pick(&[50, 51, 74, 100, 200])));
+        calls.push(Call::SetMtu(r.pick(&[50, 51, 72, 74, 96, 100, 120, 200])));
     }
     let wide = (g.sizes.receive / 2) as u16;
     match g.profile {
@@ -125,6 +130,7 @@ pub fn first_calls(g: &mut Generator) -> Vec<Call> {
 pub fn make(kind: Move, g: &mut Generator, s: &State) -> Call {
     match kind {
         Push => Call::Input(vec![push(g, s)]),
+        Big => big(g, s),
         PushRun => push_run(g, s),
         Ack => Call::Input(acks(g, s)),
         AckRun => ack_run(g, s),
@@ -155,14 +161,19 @@ pub fn make(kind: Move, g: &mut Generator, s: &State) -> Call {
         Flush => Call::Flush,
         FlushAck => Call::FlushAck,
         Check => {
-            let t = if g.random.once_in(3) { leap(&mut g.random, s) } else { tick(g, s) };
+            let now = [s.current, s.ts_flush.wrapping_sub(1 + g.random.below(9) as u32)];
+            let t = match g.random.below(6) {
+                0 | 1 => leap(&mut g.random, s),
+                2 => g.random.pick(&now),
+                _ => tick(g, s),
+            };
             Call::Check(t)
         }
         Wndsize => wndsize(g, s),
-        Mtu => Call::SetMtu(g.random.weighted(&[(50, 3), (49, 1), (51, 1), (73, 1), (74, 2), (100, 3), (200, 3), (600, 1), (1400, 1), (1500, 2), (0, 1)])),
+        Mtu => Call::SetMtu(g.random.weighted(&[(50, 3), (49, 1), (51, 1), (72, 2), (73, 1), (74, 2), (96, 1), (100, 3), (120, 1), (200, 3), (600, 1), (1400, 1), (1500, 2), (0, 1)])),
         Settings => settings(&mut g.random, s),
         Conv => conv(&mut g.random, s),
-        Tune => tune(&mut g.random, s),
+        Tune => tune(g, s),
         Getter => Call::Get(g.random.pick(&GETTERS).0),
         Leaf => leaf(&mut g.random),
     }
@@ -255,7 +266,7 @@ fn fragment(g: &mut Generator) -> u8 {
     }
     // every other sequence has few ends, so that the queue holds none
     let ends = if g.sizes.send == 128 { 1 } else { 8 };
-    r.weighted(&[(0, ends), (1, 4), (2, 3), (3, 2), (7, 1), (100, 1), (127, 1), (128, 1), (254, 1)])
+    r.weighted(&[(0, ends), (1, 4), (2, 3), (3, 2), (7, 1), (100, 1), (127, 1), (128, 1), (254, 1), (255, 1)])
 }
 
 fn push(g: &mut Generator, s: &State) -> Piece {
@@ -265,6 +276,19 @@ fn push(g: &mut Generator, s: &State) -> Piece {
     let n = g.random.weighted(&[(0, 1), (1, 4), (5, 4), (20, 3), (s.mss.min(200), 1)]);
     let fill = g.fill(n);
     Piece::Segment(h, fill)
+}
+
+/// A datagram as long as one may be: a push of up to 1,476 bytes, or one and a short one behind it.
+fn big(g: &mut Generator, s: &State) -> Call {
+    let mut h = head(g, s, PUSH);
+    h.sn = push_number(&mut g.random, s);
+    let n = g.random.pick(&[1376, 1377, 1400, 1452, 1475, 1476]);
+    let fill = g.fill(n);
+    let mut pieces = vec![Piece::Segment(h, fill)];
+    if n <= 1452 && g.random.once_in(2) {
+        pieces.push(plain(g, s, ASK));
+    }
+    Call::Input(pieces)
 }
 
 /// Pushes with numbers one after the other, most from the awaited one on, as many as a datagram holds.
@@ -308,16 +332,22 @@ fn ack(g: &mut Generator, s: &State) -> Piece {
         let seg = s.snd_buf.first().map_or(s.current, |x| x.ts);
         h.ts = r.near(seg.wrapping_add(1 << 31));
     }
-    Piece::Segment(h, Fill { len: 0, seed: 0 })
+    let n = if r.once_in(8) { r.pick(&[1, 5, 24]) } else { 0 };
+    let fill = g.fill(n);
+    Piece::Segment(h, fill)
 }
 
-/// Up to three acks; sometimes the second lies behind the first by one number and half of all times.
+/// Up to three acks; sometimes two that lie half of all times or of all numbers apart.
 fn acks(g: &mut Generator, s: &State) -> Vec<Piece> {
     let mut pieces = some(g, s, ack, 3);
     if g.random.once_in(8) {
         if let Piece::Segment(h, fill) = pieces[0].clone() {
-            let ts = g.random.near(h.ts.wrapping_add(1 << 31));
-            pieces.push(Piece::Segment(Header { sn: h.sn.wrapping_add(1), ts, ..h }, fill));
+            let far = if g.random.once_in(2) {
+                Header { sn: h.sn.wrapping_add(1), ts: g.random.near(h.ts.wrapping_add(1 << 31)), ..h }
+            } else {
+                Header { sn: g.random.near(h.sn.wrapping_add(1 << 31)), ts: h.ts.wrapping_add(1), ..h }
+            };
+            pieces.push(Piece::Segment(far, fill));
         }
     }
     pieces
@@ -465,6 +495,7 @@ fn leap(r: &mut Random, s: &State) -> u32 {
     match r.below(8) {
         0 | 1 => r.near(s.ts_flush.wrapping_sub(10_000)),
         2 | 3 => r.near(s.ts_flush.wrapping_add(10_000)),
+        4 if s.probe_wait > 0 && r.once_in(2) => r.near(s.ts_probe.wrapping_add(1 << 31)),
         4 => r.near(s.ts_flush.wrapping_add(1 << 31)),
         5 => s.ts_flush.wrapping_add(r.below(20_000) as u32).wrapping_sub(10_000),
         6 => s.current.wrapping_add(r.below(200_000) as u32),
@@ -499,18 +530,31 @@ fn conv(r: &mut Random, s: &State) -> Call {
     }
 }
 
-/// Numbers that only very long runs reach by themselves.
-fn tune(r: &mut Random, s: &State) -> Call {
+/// Numbers that only very long runs reach by themselves, and the calls that they matter to.
+fn tune(g: &mut Generator, s: &State) -> Call {
+    let r = &mut g.random;
     let at = r.below(s.snd_buf.len());
     let resent = s.fastresend;
-    match r.below(8) {
+    let kind = if s.snd_buf.is_empty() { r.below(4) } else { r.below(10) };
+    match kind {
         0 => Call::Tune(Tuned::Cwnd, r.pick(&[1, 2, 3, 100, 2002, 65_534, 65_535])),
-        1 => Call::Tune(Tuned::Incr, r.pick(&[0, 1, 1376, 2_954_952, 90_177_535, 90_177_536, 1 << 33])),
-        2 => Call::Tune(Tuned::Ssthresh, r.pick(&[2, 3, 32_767, 65_535])),
+        1 => Call::Tune(Tuned::Incr, r.pick(&[0, 26, 1376, 2_954_952, 90_177_535, 90_177_536, 1 << 33])),
+        2 => Call::Tune(Tuned::Ssthresh, r.pick(&[2, 3, 300, 32_767])),
         3 => Call::Tune(Tuned::RxRto, r.pick(&[30, 100, 200, 60_000])),
         4 | 5 => Call::Tune(Tuned::Fastack(at), r.near(resent.max(2)) as u64),
         6 => Call::Tune(Tuned::Xmit(at), r.pick(&[1, 4, 5, 6, 7])),
-        _ => Call::Tune(Tuned::Rto(at), r.pick(&[100, 1 << 30, 1_677_721_600, 2_209_672_840, 3_355_443_200, u32::MAX as u64])),
+        // one segment stuck, the rest of a long range acked, and a fast resend due
+        7 => {
+            let ahead = r.pick(&[1_200, 2_000, 6_000, 65_534, 65_535]);
+            g.queue(vec![Call::Tune(Tuned::Fastack(at), resent as u64), Call::Flush]);
+            Call::Tune(Tuned::Ahead, ahead)
+        }
+        // the next time-out doubles a segment's rto past 2^31, or to it
+        _ => {
+            let due = s.snd_buf[at].resendts;
+            g.queue(vec![Call::Update(due), Call::Flush, Call::Check(due)]);
+            Call::Tune(Tuned::Rto(at), g.random.pick(&[1 << 30, 1 << 30, 100, 1_677_721_600, 2_209_672_840, 3_355_443_200, u32::MAX as u64]))
+        }
     }
 }
 
@@ -546,7 +590,7 @@ fn leaf(r: &mut Random) -> Call {
                 una: edge(r),
                 len: None,
             };
-            Call::Encode(h, r.below(3000) as u32)
+            Call::Encode(h, r.pick(&[0, 1, 255, 256, 1476, 65_535, 65_536, 1 << 20]).max(r.below(3000) as u32))
         }
     }
 }

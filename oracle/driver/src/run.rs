@@ -1,8 +1,9 @@
 //! Runs sequences of calls on two sides, and tells the first difference.
 
 use crate::call::{Call, Sizes, Tuned, LEAVES};
+use crate::domain;
 use crate::generator::{Generator, Profile};
-use crate::side::{Outcome, Side};
+use crate::side::{Answer, Outcome, Side};
 use state::State;
 
 /// What is wanted of a run.
@@ -25,7 +26,12 @@ pub struct Finding {
 pub struct Report {
     pub calls: u64,
     pub finding: Option<Finding>,
+    /// No sequence of the profile has any of the calls that were to be compared.
+    pub idle: bool,
 }
+
+/// After so many sequences without a call to compare there will be none.
+const IDLE: u64 = 400;
 
 /// Sets one number of a state, as `Call::Tune` asks. A segment that is not there is left out of it.
 pub fn tune(s: &mut State, what: Tuned, value: u64) {
@@ -34,6 +40,7 @@ pub fn tune(s: &mut State, what: Tuned, value: u64) {
         Tuned::Incr => s.incr = value as usize,
         Tuned::Ssthresh => s.ssthresh = value as u16,
         Tuned::RxRto => s.rx_rto = value as u32,
+        Tuned::Ahead => s.snd_nxt = s.snd_una.wrapping_add(value as u32),
         Tuned::Fastack(i) => s.snd_buf.iter_mut().skip(i).take(1).for_each(|x| x.fastack = value as u32),
         Tuned::Xmit(i) => s.snd_buf.iter_mut().skip(i).take(1).for_each(|x| x.xmit = value as u32),
         Tuned::Rto(i) => s.snd_buf.iter_mut().skip(i).take(1).for_each(|x| x.rto = value as u32),
@@ -108,6 +115,9 @@ impl<'a> Pair<'a> {
     fn shown(&self) -> Vec<String> {
         let (a, b) = (&self.outcome, &self.answered);
         let mut what = Vec::new();
+        if a.answer == Answer::Panicked {
+            what.push("the judge itself broke off".to_string());
+        }
         if a.answer != b.answer {
             what.push(format!("answer: {:?} | {:?}", a.answer, b.answer));
         }
@@ -141,8 +151,13 @@ impl<'a> Pair<'a> {
     }
 }
 
+/// Two states that are not the same, in words.
 fn tell(a: &State, b: &State) -> Vec<String> {
-    a.differences(b).iter().map(|(name, x, y)| format!("{}: {} | {}", name, x, y)).collect()
+    let mut what: Vec<String> = a.differences(b).iter().map(|(name, x, y)| format!("{}: {} | {}", name, x, y)).collect();
+    if what.is_empty() {
+        what.push("the states differ".to_string());
+    }
+    what
 }
 
 fn list(datagrams: &[Vec<u8>]) -> String {
@@ -155,6 +170,9 @@ pub fn run(judge: &mut dyn Side, other: &mut dyn Side, plan: &Plan, progress: &m
     let mut calls = 0;
     let mut sequence = 0;
     while calls < plan.count {
+        if calls == 0 && sequence == IDLE {
+            return Report { calls, finding: None, idle: true };
+        }
         let mut generator = Generator::new(plan.seed, sequence, plan.profile, &plan.calls);
         sequence += 1;
         let mut pair = Pair::new(judge, other, &plan.calls);
@@ -165,7 +183,7 @@ pub fn run(judge: &mut dyn Side, other: &mut dyn Side, plan: &Plan, progress: &m
             generator.saw(&pair.outcome);
             calls += compared as u64;
             if let Some(what) = what {
-                return Report { calls, finding: Some(Finding { script, what }) };
+                return Report { calls, finding: Some(Finding { script, what }), idle: false };
             }
             if calls >= plan.count {
                 break;
@@ -173,19 +191,30 @@ pub fn run(judge: &mut dyn Side, other: &mut dyn Side, plan: &Plan, progress: &m
         }
         progress(calls);
     }
-    Report { calls, finding: None }
+    Report { calls, finding: None, idle: false }
 }
 
-/// Runs a script; `Some` is the finding at its first difference.
-pub fn replay(judge: &mut dyn Side, other: &mut dyn Side, script: &[Call], calls: &[String]) -> (u64, Option<Finding>) {
+/// What came of a script.
+pub enum Replay {
+    Same(u64),
+    Differs(u64, Finding),
+    /// The call at this index leaves the domain of equality, and why.
+    Leaves(usize, &'static str),
+}
+
+/// Runs a script up to its first difference.
+pub fn replay(judge: &mut dyn Side, other: &mut dyn Side, script: &[Call], calls: &[String]) -> Replay {
     let mut pair = Pair::new(judge, other, calls);
     let mut count = 0;
     for (i, call) in script.iter().enumerate() {
+        if let Some(why) = domain::leaves(call, &pair.now, pair.sizes) {
+            return Replay::Leaves(i, why);
+        }
         let (compared, what) = pair.step(call);
         count += compared as u64;
         if let Some(what) = what {
-            return (count, Some(Finding { script: script[..=i].to_vec(), what }));
+            return Replay::Differs(count, Finding { script: script[..=i].to_vec(), what });
         }
     }
-    (count, None)
+    Replay::Same(count)
 }

@@ -1,6 +1,9 @@
 //! The Rust as a side: for the judge, and for copies of it, which are crates of their own.
 
+use std::cell::Cell;
 use std::io;
+use std::panic;
+use std::sync::Once;
 
 /// Keeps what the block writes: each write is a datagram.
 #[derive(Default)]
@@ -21,6 +24,26 @@ impl io::Write for Sink {
 
 /// What a buffer holds before a call writes to it.
 pub const BLANK: u8 = 0xA5;
+
+/// Runs a call that may break off, which is an answer to compare and not a message; false where it did.
+pub fn quietly(call: impl FnOnce()) -> bool {
+    thread_local! {
+        static QUIET: Cell<bool> = Cell::new(false);
+    }
+    static HOOK: Once = Once::new();
+    HOOK.call_once(|| {
+        let usual = panic::take_hook();
+        panic::set_hook(Box::new(move |info| {
+            if !QUIET.with(|q| q.get()) {
+                usual(info);
+            }
+        }));
+    });
+    QUIET.with(|q| q.set(true));
+    let ran = panic::catch_unwind(panic::AssertUnwindSafe(call));
+    QUIET.with(|q| q.set(false));
+    ran.is_ok()
+}
 
 #[macro_export]
 macro_rules! rust_side {
@@ -261,8 +284,7 @@ macro_rules! rust_side {
 
             fn apply(&mut self, call: &$crate::call::Call, out: &mut $crate::side::Outcome) {
                 *out = $crate::side::Outcome::new();
-                let ran = std::panic::catch_unwind(std::panic::AssertUnwindSafe(|| self.call(call, out)));
-                if ran.is_err() {
+                if !$crate::rust_side::quietly(|| self.call(call, out)) {
                     out.answer = $crate::side::Answer::Panicked;
                 }
                 out.datagrams = std::mem::take(&mut $krate::inside::output(&mut self.kcp).datagrams);

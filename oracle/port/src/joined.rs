@@ -27,11 +27,10 @@ impl<S: Side> Joined<S> {
     fn pass(&mut self) {
         let mut s = State::default();
         self.copy.read(&mut s);
-        if self.memory.fits(&s) {
-            self.memory.lay(&s);
-            self.memory.read(&mut s);
-            self.copy.lay(&s, self.sizes);
-        }
+        assert!(self.memory.fits(&s), "a state of the domain does not fit the memory that is lent: {:?}", self.sizes);
+        self.memory.lay(&s);
+        self.memory.read(&mut s);
+        self.copy.lay(&s, self.sizes);
     }
 
     fn start(&mut self, rcv: u32, snd: u32, sizes: Sizes) {

@@ -2,7 +2,7 @@
 
 use driver::call::{parse, Call, LEAVES, NAMES};
 use driver::generator::PROFILES;
-use driver::run::{replay, run, Finding, Plan};
+use driver::run::{replay, run, Finding, Plan, Replay};
 use driver::shrink::shrink;
 use driver::side::Side;
 use driver::{rust_side, Judge};
@@ -82,12 +82,13 @@ fn sides(wanted: &Wanted) -> String {
     format!("the port for {}; a copy of the Rust for the rest", HAS.join(", "))
 }
 
-fn read_script(path: &str) -> Vec<Call> {
+/// The calls of a script, each with its line.
+fn read_script(path: &str) -> Vec<(usize, Call)> {
     let text = std::fs::read_to_string(path).unwrap_or_else(|e| usage(&format!("cannot read {}: {}", path, e)));
     let mut calls = Vec::new();
     for (i, line) in text.lines().enumerate() {
         match parse(line) {
-            Ok(Some(call)) => calls.push(call),
+            Ok(Some(call)) => calls.push((i + 1, call)),
             Ok(None) => {}
             Err(e) => usage(&format!("{}:{}: {}", path, i + 1, e)),
         }
@@ -99,52 +100,69 @@ fn other(wanted: &Wanted) -> Box<dyn Side> {
     Box::new(Joined::new(Copy::default(), !wanted.copy))
 }
 
-/// Prints the finding as a script that `--replay` takes.
-fn show(finding: &Finding) {
-    println!("# differs after the last call (the judge's | the other's):");
+/// The finding as a script that `--replay` takes.
+fn shown(finding: &Finding) -> String {
+    let mut text = "# differs after the last call (the judge's | the other's):\n".to_string();
     for what in &finding.what {
         let line: String = what.chars().take(400).collect();
-        println!("#   {}", line);
+        text.push_str(&format!("#   {}\n", line));
     }
     for call in &finding.script {
-        println!("{}", call);
+        text.push_str(&format!("{}\n", call));
     }
+    text
 }
 
 fn main() {
     let wanted = arguments();
-    // a side that breaks off is an answer to compare, and not a message
-    std::panic::set_hook(Box::new(|_| {}));
     if wanted.rows {
         rows();
     }
+    let script = wanted.script.as_ref().map(|path| (path, read_script(path)));
+    let mut text = String::new();
     if !wanted.brief {
-        println!("# the other side: {}", sides(&wanted));
+        text.push_str(&format!("# the other side: {}\n", sides(&wanted)));
     }
-    let (calls, finding) = match &wanted.script {
-        Some(path) => {
-            let script = read_script(path);
-            replay(&mut Judge::default(), &mut *other(&wanted), &script, &wanted.plan.calls)
-        }
+    let (calls, finding) = match &script {
+        Some((path, script)) => replayed(&wanted, path, script),
         None => search(&wanted),
     };
     if let Some(finding) = &finding {
         if !wanted.brief {
-            show(finding);
+            text.push_str(&shown(finding));
         }
     }
-    println!("{} calls, {} differences", calls, finding.is_some() as u32);
-    let _ = io::stdout().flush();
+    text.push_str(&format!("{} calls, {} differences\n", calls, finding.is_some() as u32));
+    say(&text);
     exit(finding.is_some() as i32)
+}
+
+/// Writes to standard output, all at once.
+fn say(text: &str) {
+    let mut out = io::stdout();
+    if let Err(e) = out.write_all(text.as_bytes()).and_then(|_| out.flush()) {
+        eprintln!("compare: the answer could not be written: {}", e);
+        exit(2);
+    }
+}
+
+fn replayed(wanted: &Wanted, path: &str, script: &[(usize, Call)]) -> (u64, Option<Finding>) {
+    let calls: Vec<Call> = script.iter().map(|x| x.1.clone()).collect();
+    match calls.first() {
+        Some(Call::Start { .. }) => {}
+        _ => usage(&format!("{}: a script begins with 'new'", path)),
+    }
+    match replay(&mut Judge::default(), &mut *other(wanted), &calls, &wanted.plan.calls) {
+        Replay::Same(count) => (count, None),
+        Replay::Differs(count, finding) => (count, Some(finding)),
+        Replay::Leaves(i, why) => usage(&format!("{}:{}: leaves the domain of equality: {}", path, script[i].0, why)),
+    }
 }
 
 /// Document 01's worked values, on the judge.
 fn rows() -> ! {
     let (bad, lines) = driver::rows::run(&mut Judge::default());
-    for line in &lines {
-        println!("{}", line);
-    }
-    println!("{} rows, {} wrong", lines.len(), bad);
+    say(&format!("{}\n{} rows, {} wrong\n", lines.join("\n"), lines.len(), bad));
     exit((bad > 0) as i32)
 }
 
@@ -164,13 +182,20 @@ fn search(wanted: &Wanted) -> (u64, Option<Finding>) {
     if terminal && told > 0 {
         eprintln!();
     }
+    if report.idle {
+        usage("no sequence of this profile has any of these calls");
+    }
     let finding = match report.finding {
         Some(finding) if !wanted.brief => {
             if terminal {
                 eprintln!("a difference after {} calls; looking for the shortest sequence that shows it", report.calls);
             }
             let calls = &wanted.plan.calls;
-            Some(shrink(finding, 20, &mut |script| replay(&mut Judge::default(), &mut *other(wanted), script, calls).1))
+            let mut shows = |script: &[Call]| match replay(&mut Judge::default(), &mut *other(wanted), script, calls) {
+                Replay::Differs(_, finding) => Some(finding),
+                _ => None,
+            };
+            Some(shrink(finding, 20, &mut shows))
         }
         other => other,
     };
