@@ -4,6 +4,7 @@
 #ifndef KCP_C_H
 #define KCP_C_H
 
+#include <stdbool.h>
 #include <stddef.h>
 #include <stdint.h>
 
@@ -29,6 +30,16 @@ void kcp_header_numbers(const uint8_t bytes[24], uint32_t out[8]);
 
 /* The estimator srtt, rttval, rto, minrto after a round trip of rtt. */
 void kcp_measured(uint32_t e[4], uint32_t rtt, uint32_t interval);
+
+/* Whether a pool of at most 1,024 slots, with records of width (at most 64) numbers, is well formed with n slots in use: 0, or
+   15 (BadPool). */
+uint32_t kcp_pool_test(const uint32_t *order, size_t slots, const uint32_t *records, size_t numbers, const uint8_t *room,
+                       size_t bytes, size_t width, size_t n);
+
+/* Aids to measure a copy into a slot of a room and out of it, which will go: whether the copy fitted and was made. One that does
+   not fit leaves all as it was. */
+bool kcp_payload_put(uint8_t *room, size_t bytes, size_t slot, const uint8_t *src, size_t len);
+bool kcp_payload_get(const uint8_t *room, size_t bytes, size_t slot, uint8_t *out, size_t len);
 
 #ifdef __cplusplus
 }

@@ -10,3 +10,7 @@ told-short before e s = rw (sym e ∙ s) (record { refusal = refl; place = refl 
 
 pub told-is : {r answer : Number} (before n : ℕ) → r ≡ answer → r ≡ Is n → Told answer before 0 n
 told-is before n e s = rw (sym e ∙ s) (record { refusal = refl; place = refl })
+
+-- any two answers, and any two numbers at the place afterwards, that meet the promise coincide
+pub told-one : {answer : Number} {before r r′ after after′ : ℕ} → Told answer before r after → Told answer before r′ after′ → (r ≡ r′) × (after ≡ after′)
+told-one t u = (t .refusal ∙ sym (u .refusal), t .place ∙ sym (u .place))

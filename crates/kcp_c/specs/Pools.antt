@@ -30,6 +30,3 @@ payloadPut room s src = pick (payloadFits room s (length src)) (stored 1476 room
 
 unfoldable pub payloadGot : List ℕ → ℕ → List ℕ → List ℕ
 payloadGot room s out = pick (payloadFits room s (length out)) (put out 0 (loaded 1476 room s 0 (length out))) out
-
-unfoldable pub payloadAnswer : List ℕ → ℕ → ℕ → ℕ
-payloadAnswer room s size = pick (payloadFits room s size) 0 15

@@ -8,7 +8,7 @@ ghost use Rattle.wire.specs.Helpers.{got, putOf, numberOfPut, withConv};
 ghost use Rattle.estimator.specs.Estimate.{measured};
 ghost use Rattle.slots.specs.Pool.{lists};
 ghost use Rattle.kcp_c.specs.Told.{Told};
-ghost use Rattle.kcp_c.specs.Pools.{PoolTold, payloadPut, payloadGot, payloadAnswer};
+ghost use Rattle.kcp_c.specs.Pools.{PoolTold, payloadFits, payloadPut, payloadGot};
 ghost use Rattle.kcp_c.specs.Numbers.{header, headerNumbers, estimator, estimatorNumbers};
 use estimator::Estimator;
 use wire::Header;
@@ -154,35 +154,35 @@ pub extern "C" fn kcp_pool_test(
     15
 }
 
-// Copies src into a slot's bytes: 0, or 15 where it does not fit, which leaves all. To measure the copy.
+// Copies src into a slot's bytes, if it fits, and else leaves all; answers whether it did. To measure the copy.
 #[no_mangle]
-pub extern "C" fn kcp_payload_put(room: &mut [u8], slot: usize, src: &[u8]) -> u32
-    ensures { λ r. ⌜ r ≡ payloadAnswer (now (room .entry)) slot (length (now (src .entry))) ⌝ }
+pub extern "C" fn kcp_payload_put(room: &mut [u8], slot: usize, src: &[u8]) -> bool
+    ensures { λ r. ⌜ r ≡ payloadFits (now (room .entry)) slot (length (now (src .entry))) ⌝ }
     ensures { λ _. ⌜ now (room .exit) ≡ payloadPut (now (room .entry)) slot (now (src .entry)) ⌝ }
 {
     if src.len() > 1476 {
-        return 15;
+        return false;
     }
     if slot >= room.len() / 1476 {
-        return 15;
+        return false;
     }
     lent::put_payload(room, slot, 0, src);
-    0
+    true
 }
 
-// Copies a slot's bytes into the whole of out: 0, or 15 where there are not as many, which leaves all. To measure the copy.
+// Copies a slot's bytes into the whole of out, if there are as many, and else leaves all; answers whether it did. To measure the copy.
 #[no_mangle]
-pub extern "C" fn kcp_payload_get(room: &[u8], slot: usize, out: &mut [u8]) -> u32
-    ensures { λ r. ⌜ r ≡ payloadAnswer (now (room .entry)) slot (length (now (out .entry))) ⌝ }
+pub extern "C" fn kcp_payload_get(room: &[u8], slot: usize, out: &mut [u8]) -> bool
+    ensures { λ r. ⌜ r ≡ payloadFits (now (room .entry)) slot (length (now (out .entry))) ⌝ }
     ensures { λ _. ⌜ now (out .exit) ≡ payloadGot (now (room .entry)) slot (now (out .entry)) ⌝ }
 {
     let n = out.len();
     if n > 1476 {
-        return 15;
+        return false;
     }
     if slot >= room.len() / 1476 {
-        return 15;
+        return false;
     }
     lent::get_payload(room, slot, n, out, 0);
-    0
+    true
 }

@@ -1,6 +1,6 @@
 -- What the helpers' promises are under 24 bytes and from there on, and that they leave no choice. Assumes nothing.
 use Prim.Native.Nat.{ℕ, _^_, _≤_, _<_}
-use mathlib.Core.Path.{_≡_, sym, ap, _∙_}
+use mathlib.Core.Path.{_≡_, refl, sym, ap, _∙_}
 use mathlib.Core.List.{List, [], _∷_, _++_}
 use lib.ListN.{length, set, drop, length-drop}
 use lib.Seq.{sets-eq}
@@ -27,7 +27,7 @@ module _ (s : List ℕ) (short : length s < 24) where
   pub set-short : (conv : ℕ) → ConvSet s conv PutShortHeader s
   unfolding putOf shortHeader withConv
   set-short conv =
-      let t = lt-ltb (length s) 24 short in record { answer = sym (pick-true _ _ t); refusal = sym (pick-true _ _ t); bytes = sym (pick-true _ _ t) }
+      let t = lt-ltb (length s) 24 short in record { answer = sym (pick-true _ _ t); refusal = sym (pick-true _ _ t); values = refl; bytes = sym (pick-true _ _ t) }
 
 module _ (s : List ℕ) (whole : 24 ≤ length s) where
   pub got-whole : (field : Header → ℕ) {n : ℕ} → n ≡ field (headerAt s 0) → Got field s (Is n)
@@ -47,6 +47,7 @@ module _ (s : List ℕ) (whole : 24 ≤ length s) where
       record {
         answer = sym (pick-false _ _ t);
         refusal = sym (pick-false _ _ t);
+        values = refl;
         bytes =
             sets-eq (w .b0 ∷ w .b1 ∷ w .b2 ∷ w .b3 ∷ []) s 0 (omega arith)
             ∙ ap (λ (l : List ℕ). l ++ drop 4 s) (e .bytes) ∙ sym (pick-false _ _ t);

@@ -1,3 +1,4 @@
 pub mod LittleEndian
 pub mod RoundTrip
+pub mod Commands
 pub mod Helpers

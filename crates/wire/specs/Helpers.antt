@@ -27,10 +27,14 @@ abbrev pub valuesOf : Number → List ℕ
 valuesOf (Is n) = n ∷ []
 valuesOf ShortHeader = []
 
--- neither answer of a helper that sets carries a value
+-- likewise of a helper that sets; neither of its answers carries a value
 abbrev pub numberOfPut : Put → ℕ
 numberOfPut Done = 0
 numberOfPut PutShortHeader = 16
+
+abbrev pub valuesOfPut : Put → List ℕ
+valuesOfPut Done = []
+valuesOfPut PutShortHeader = []
 
 -- a field of the header at the front
 unfoldable pub got : (Header → ℕ) → List ℕ → Number
@@ -53,4 +57,5 @@ putOf s = pick (ltb (length s) 24) PutShortHeader Done
 pub record ConvSet (s : List ℕ) (conv : ℕ) (r : Put) (after : List ℕ) : Type 0 where
   pub answer : r ≡ putOf s
   pub refusal : numberOfPut r ≡ shortHeader s
+  pub values : valuesOfPut r ≡ []
   pub bytes : after ≡ withConv s conv

@@ -1,3 +1,4 @@
 pub mod LittleEndian
 pub mod Header
+pub mod Commands
 pub mod Helpers

@@ -5,6 +5,7 @@ ghost use mathlib.Core.List.{[], _∷_};
 ghost use lib.ListN.{length};
 ghost use Rattle.wire.specs.LittleEndian.{number, leAt, Split};
 ghost use Rattle.wire.specs.Header.{headerAt, headerBytes, convOf, snOf};
+ghost use Rattle.wire.specs.Commands.{kindOf, commandOf};
 ghost use Rattle.wire.specs.Helpers.{Got, ConvSet};
 
 // cmd: push, ack, window ask and window tell.
@@ -18,6 +19,15 @@ pub const TELL: u8 = 84;
 
 // The bytes of a header.
 pub const OVERHEAD: usize = 24;
+
+// What a cmd asks for; any other number is none of the four.
+pub enum Kind {
+    Push,
+    Ack,
+    Ask,
+    Tell,
+    Other(u8),
+}
 
 pub struct Header {
     pub conv: u32,
@@ -48,6 +58,32 @@ struct Four {
     b1: u8,
     b2: u8,
     b3: u8,
+}
+
+// The kind of a cmd.
+pub fn kind_of(cmd: u8) -> Kind
+    ensures { λ r. ⌜ r ≡ kindOf cmd ⌝ }
+{
+    match cmd {
+        PUSH => Kind::Push,
+        ACK => Kind::Ack,
+        ASK => Kind::Ask,
+        TELL => Kind::Tell,
+        _ => Kind::Other(cmd),
+    }
+}
+
+// The cmd of a kind.
+pub fn command(kind: Kind) -> u8
+    ensures { λ r. ⌜ r ≡ commandOf kind ⌝ }
+{
+    match kind {
+        Kind::Push => PUSH,
+        Kind::Ack => ACK,
+        Kind::Ask => ASK,
+        Kind::Tell => TELL,
+        Kind::Other(cmd) => cmd,
+    }
 }
 
 // A byte as a wider number.

@@ -20,13 +20,13 @@ pub fn pool_test(_: &[u32], _: &[u32], _: &[u8], _: usize, _: usize) -> u32 {
 }
 
 #[cfg(not(kcp_c))]
-pub fn payload_put(_: &mut [u8], _: usize, _: &[u8]) -> u32 {
-    0
+pub fn payload_put(_: &mut [u8], _: usize, _: &[u8]) -> bool {
+    false
 }
 
 #[cfg(not(kcp_c))]
-pub fn payload_get(_: &[u8], _: usize, _: &mut [u8]) -> u32 {
-    0
+pub fn payload_get(_: &[u8], _: usize, _: &mut [u8]) -> bool {
+    false
 }
 
 #[cfg(kcp_c)]
@@ -54,8 +54,8 @@ mod linked {
             width: usize,
             n: usize,
         ) -> u32;
-        fn kcp_payload_put(room: *mut u8, bytes: usize, slot: usize, src: *const u8, len: usize) -> u32;
-        fn kcp_payload_get(room: *const u8, bytes: usize, slot: usize, out: *mut u8, len: usize) -> u32;
+        fn kcp_payload_put(room: *mut u8, bytes: usize, slot: usize, src: *const u8, len: usize) -> bool;
+        fn kcp_payload_get(room: *const u8, bytes: usize, slot: usize, out: *mut u8, len: usize) -> bool;
     }
 
     /// Whether a pool is well formed with n slots in use: 0, or 15.
@@ -64,11 +64,12 @@ mod linked {
         unsafe { kcp_pool_test(o, order.len(), k, records.len(), r, room.len(), width, n) }
     }
 
-    pub fn payload_put(room: &mut [u8], slot: usize, src: &[u8]) -> u32 {
+    /// Whether the copy fitted and was made.
+    pub fn payload_put(room: &mut [u8], slot: usize, src: &[u8]) -> bool {
         unsafe { kcp_payload_put(room.as_mut_ptr(), room.len(), slot, src.as_ptr(), src.len()) }
     }
 
-    pub fn payload_get(room: &[u8], slot: usize, out: &mut [u8]) -> u32 {
+    pub fn payload_get(room: &[u8], slot: usize, out: &mut [u8]) -> bool {
         unsafe { kcp_payload_get(room.as_ptr(), room.len(), slot, out.as_mut_ptr(), out.len()) }
     }
 

@@ -89,7 +89,7 @@ impl Copied {
         Copied { room: vec![3; CALLS * ROOM], payload: vec![7; PAYLOAD], out, plain }
     }
 
-    fn run(&mut self, slot: usize) -> u32 {
+    fn run(&mut self, slot: usize) -> bool {
         if self.plain {
             let place = &mut self.room[slot * ROOM..][..PAYLOAD];
             if self.out {
@@ -97,7 +97,7 @@ impl Copied {
             } else {
                 place.copy_from_slice(&self.payload);
             }
-            return 0;
+            return true;
         }
         if self.out {
             exports::payload_get(&self.room, slot, &mut self.payload)
@@ -112,10 +112,10 @@ impl Timed for Copied {
         let (first, second) = if self.out { (3, 7) } else { (7, 3) };
         self.room.iter_mut().for_each(|b| *b = 3);
         self.payload.iter_mut().for_each(|b| *b = 7);
-        let answer = self.run(5);
+        let made = self.run(5);
         let copied = if self.out { self.payload[PAYLOAD - 1] } else { self.room[5 * ROOM + PAYLOAD - 1] };
         let beside = if self.out { second } else { self.room[5 * ROOM + PAYLOAD] };
-        if answer != 0 || copied != first || beside != second {
+        if !made || copied != first || beside != second {
             give_up("a copy is not what it should be");
         }
     }

@@ -1,28 +1,21 @@
+-- `kcp_c::kcp_get_sn` meets its contract. The law of each answer of `wire::get_sn`. Assumes nothing.
 use Rattle.kcp_c.proofs.Laws.{told-short, told-is}
 use borrow.Author.Needs.{needs}
 use Rattle.kcp_c.proofs.kcp_get_sn.Statement.{statement}
 use Rattle.kcp_c.proofs.kcp_get_sn.Tie as tie
-use Rattle.kcp_c.proofs.kcp_get_sn.Reads as reads
-use Rattle.kcp_c.proofs.kcp_get_sn.Lts as lts
-use Rattle.wire.proofs.get_sn.Reads as get-sn-reads
 
--- src/lib.rt:45:9
 get-sn-requires : tie.Need-get-sn-requires
 get-sn-requires c κs = search needs
 
--- src/lib.rt:46:20
 enum-known-answer : tie.Need-enum-known-answer
 enum-known-answer c = search needs
 
--- src/lib.rt:47:9
 enum-told : tie.Need-enum-told
 enum-told c = search needs
 
--- src/lib.rt:47:9
 returns : tie.Need-returns
 returns c = told-short _ (c .before .before .get-sn .ensures .answer) (c .enum-told .given .1)
 
--- src/lib.rt:41:1
 returns-2 : tie.Need-returns-2
 returns-2 c = told-is _ _ (c .before .before .before .get-sn .ensures .answer) (c .before .answer .given .1)
 

@@ -1,29 +1,22 @@
+-- `kcp_c::kcp_header_numbers` meets its contract. What `wire::read_header` ensures, as a row. Assumes nothing.
 use mathlib.Core.Path.{ap}
 use Rattle.kcp_c.specs.Numbers.{headerNumbers}
 use borrow.Author.Needs.{needs}
 use Rattle.kcp_c.proofs.kcp_header_numbers.Statement.{statement}
 use Rattle.kcp_c.proofs.kcp_header_numbers.Tie as tie
-use Rattle.kcp_c.proofs.kcp_header_numbers.Reads as reads
-use Rattle.kcp_c.proofs.kcp_header_numbers.Lts as lts
-use Rattle.wire.proofs.read_header.Reads as read-header-reads
 
--- src/lib.rt:102:9
 read-header-requires : tie.Need-read-header-requires
 read-header-requires c κs = search needs
 
--- src/lib.rt:105:9
 cast-t6 : tie.Need-cast-t6
 cast-t6 c = search needs
 
--- src/lib.rt:106:9
 cast-t7 : tie.Need-cast-t7
 cast-t7 c = search needs
 
--- src/lib.rt:107:9
 cast-t8 : tie.Need-cast-t8
 cast-t8 c = search needs
 
--- src/lib.rt:98:1
 returns : tie.Need-returns
 returns c = ap headerNumbers (c .before .before .before .before .read-header .ensures)
 

@@ -1,32 +1,25 @@
+-- `kcp_c::kcp_payload_get` meets its contract. The law of a copy that is refused, and of one that is done. Assumes nothing.
 use Rattle.kcp_c.proofs.Pools.{fits-long, fits-past, fits-in, get-refused, get-done}
 use borrow.Author.Needs.{needs}
 use Rattle.kcp_c.proofs.kcp_payload_get.Statement.{statement}
 use Rattle.kcp_c.proofs.kcp_payload_get.Tie as tie
-use Rattle.kcp_c.proofs.kcp_payload_get.Reads as reads
-use Rattle.kcp_c.proofs.kcp_payload_get.Lts as lts
-use Rattle.lent.proofs.get_payload.Reads as get-payload-reads
 
--- src/lib.rt:181:9
 returns : tie.Need-returns
 returns c =
     let a = c .before .before .before .args in
     get-refused _ _ _ (fits-long (a .room .now) (a .slot) _ (c .if1 .taken))
 
--- src/lib.rt:184:9
 returns-2 : tie.Need-returns-2
 returns-2 c =
     let a = c .before .before .before .before .args in
     get-refused _ _ _ (fits-past (a .room .now) (a .slot) _ (c .before .if1 .left) (c .if2 .taken))
 
--- src/lib.rt:186:5
 get-payload-requires : tie.Need-get-payload-requires
 get-payload-requires c κs = search needs
 
--- src/lib.rt:174:1
 same-length : tie.Need-same-length
 same-length c = search needs
 
--- src/lib.rt:174:1
 returns-3 : tie.Need-returns-3
 returns-3 c =
     let a = c .before .before .before .before .before .before .before .before .args in

@@ -1,32 +1,25 @@
+-- `kcp_c::kcp_payload_put` meets its contract. The law of a copy that is refused, and of one that is done. Assumes nothing.
 use Rattle.kcp_c.proofs.Pools.{fits-long, fits-past, fits-in, put-refused, put-done}
 use borrow.Author.Needs.{needs}
 use Rattle.kcp_c.proofs.kcp_payload_put.Statement.{statement}
 use Rattle.kcp_c.proofs.kcp_payload_put.Tie as tie
-use Rattle.kcp_c.proofs.kcp_payload_put.Reads as reads
-use Rattle.kcp_c.proofs.kcp_payload_put.Lts as lts
-use Rattle.lent.proofs.put_payload.Reads as put-payload-reads
 
--- src/lib.rt:164:9
 returns : tie.Need-returns
 returns c =
     let a = c .before .before .before .args in
     put-refused _ _ _ (fits-long (a .room .now) (a .slot) _ (c .if1 .taken))
 
--- src/lib.rt:167:9
 returns-2 : tie.Need-returns-2
 returns-2 c =
     let a = c .before .before .before .before .args in
     put-refused _ _ _ (fits-past (a .room .now) (a .slot) _ (c .before .if1 .left) (c .if2 .taken))
 
--- src/lib.rt:169:5
 put-payload-requires : tie.Need-put-payload-requires
 put-payload-requires c κs = search needs
 
--- src/lib.rt:158:1
 same-length : tie.Need-same-length
 same-length c = search needs
 
--- src/lib.rt:158:1
 returns-3 : tie.Need-returns-3
 returns-3 c =
     let a = c .before .before .before .before .before .before .before .before .args in

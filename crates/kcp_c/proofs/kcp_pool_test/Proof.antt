@@ -1,34 +1,26 @@
+-- `kcp_c::kcp_pool_test` meets its contract. What `slots::well_formed` ensures, with the two sizes. Assumes nothing.
 use Rattle.kcp_c.proofs.Pools.{pool-yes, pool-no}
 use borrow.Author.Needs.{needs}
 use Rattle.kcp_c.proofs.kcp_pool_test.Statement.{statement}
 use Rattle.kcp_c.proofs.kcp_pool_test.Tie as tie
-use Rattle.kcp_c.proofs.kcp_pool_test.Reads as reads
-use Rattle.kcp_c.proofs.kcp_pool_test.Lts as lts
-use Rattle.slots.proofs.well_formed.Reads as well-formed-reads
 
--- src/lib.rt:145:9
 returns : tie.Need-returns
 returns c = search needs
 
--- src/lib.rt:148:9
 returns-2 : tie.Need-returns-2
 returns-2 c = search needs
 
--- src/lib.rt:151:59
 slice-aggregate-well-formed : tie.Need-slice-aggregate-well-formed
 slice-aggregate-well-formed c = search needs
 
--- src/lib.rt:151:8
 well-formed-requires : tie.Need-well-formed-requires
 well-formed-requires c κs = search needs
 
--- src/lib.rt:152:9
 returns-3 : tie.Need-returns-3
 returns-3 c =
     let e = c .before .before .well-formed .ensures .0 in
     pool-yes _ _ _ (e .0) (e .1) (c .before .before .before .before .before .if1 .left) (c .before .before .before .before .if2 .left) (c .if3 .taken)
 
--- src/lib.rt:134:1
 returns-4 : tie.Need-returns-4
 returns-4 c =
     let e = c .before .before .well-formed .ensures .0 in
