@@ -1,0 +1,4 @@
+pub mod Together
+pub mod Exact
+pub mod Outcomes
+pub mod Signed
