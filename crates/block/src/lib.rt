@@ -45,9 +45,9 @@ impl Kcp {
 
     pub const MTU_DEF: u32 = 1400;
 
-    pub const MTU_LEAST: u32 = 50;
+    pub const MTU_LEAST: usize = 50;
 
-    pub const MTU_MOST: u32 = 1500;
+    pub const MTU_MOST: usize = 1500;
     // The windows and the threshold of a fresh block; no receive window is under WND_RCV.
     pub const WND_SND: u16 = 32;
 

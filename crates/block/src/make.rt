@@ -1,6 +1,6 @@
 // The constructors: a fresh block, plain or stream.
 ghost use mathlib.Core.Path.{_≡_};
-ghost use Rattle.block.specs.Fresh.{Lent, fresh, freshPlain, freshStream, lentSizes, Makes};
+ghost use Rattle.block.specs.Fresh.{Lent, fresh, freshPlain, freshStream, Makes};
 use crate::Kcp;
 use crate::acklist::AckList;
 use crate::both;
@@ -22,25 +22,6 @@ pub enum Made {
     Refused { why: Refusal },
 }
 
-// Whether the lent memory has sizes within the limits; what it holds is no fault.
-fn lent_sizes(
-    rcv_order: &[u32],
-    rcv_records: &[u32],
-    rcv_room: &[u8],
-    snd_order: &[u32],
-    snd_records: &[u32],
-    snd_room: &[u8],
-    acks: &[u32],
-    waiting: &[u8],
-) -> bool
-    ensures { λ r. ⌜ r ≡ lentSizes (record { rcvOrder = now («rcv_order» .entry); rcvRecords = now («rcv_records» .entry); rcvRoom = now («rcv_room» .entry); sndOrder = now («snd_order» .entry); sndRecords = now («snd_records» .entry); sndRoom = now («snd_room» .entry); acks = now (acks .entry); waiting = now (waiting .entry) }) ⌝ }
-{
-    let receive = receive_sizes(rcv_order.len(), rcv_records.len(), rcv_room.len());
-    let send = send_sizes(snd_order.len(), snd_records.len(), snd_room.len());
-    let list = ack_sizes(acks.len(), waiting.len());
-    both(both(receive, send), list)
-}
-
 impl Kcp {
     // A fresh block that flushes at this interval.
     fn construct(conv: u32, stream: bool, interval: u32) -> Kcp
@@ -58,7 +39,36 @@ impl Kcp {
         }
     }
 
-    // A fresh block that keeps messages apart; refused by 15 where a lent size is outside the limits. The lent memory is left as it is.
+    // A fresh block, or refusal 15 where a lent size is outside the limits. What the lent memory holds is no fault, and is left as it is.
+    fn make(
+        conv: u32,
+        stream: bool,
+        interval: u32,
+        rcv_order: &[u32],
+        rcv_records: &[u32],
+        rcv_room: &[u8],
+        snd_order: &[u32],
+        snd_records: &[u32],
+        snd_room: &[u8],
+        acks: &[u32],
+        waiting: &[u8],
+    ) -> Made
+        ensures { λ r. ⌜ Makes (record { rcvOrder = now («rcv_order» .entry); rcvRecords = now («rcv_records» .entry); rcvRoom = now («rcv_room» .entry); sndOrder = now («snd_order» .entry); sndRecords = now («snd_records» .entry); sndRoom = now («snd_room» .entry); acks = now (acks .entry); waiting = now (waiting .entry) }) (fresh conv stream interval) r ⌝ }
+    {
+        let receive = receive_sizes(rcv_order.len(), rcv_records.len(), rcv_room.len());
+        let send = send_sizes(snd_order.len(), snd_records.len(), snd_room.len());
+        let list = ack_sizes(acks.len(), waiting.len());
+        if both(both(receive, send), list) {
+            return Made::Block {
+                block: Kcp::construct(conv, stream, interval),
+            };
+        }
+        Made::Refused {
+            why: Refusal::BadPool,
+        }
+    }
+
+    // A fresh block that keeps messages apart.
     pub fn new(
         conv: u32,
         rcv_order: &[u32],
@@ -72,7 +82,10 @@ impl Kcp {
     ) -> Made
         ensures { λ r. ⌜ Makes (record { rcvOrder = now («rcv_order» .entry); rcvRecords = now («rcv_records» .entry); rcvRoom = now («rcv_room» .entry); sndOrder = now («snd_order» .entry); sndRecords = now («snd_records» .entry); sndRoom = now («snd_room» .entry); acks = now (acks .entry); waiting = now (waiting .entry) }) (freshPlain conv) r ⌝ }
     {
-        if lent_sizes(
+        Kcp::make(
+            conv,
+            false,
+            Kcp::INTERVAL,
             rcv_order,
             rcv_records,
             rcv_room,
@@ -81,17 +94,10 @@ impl Kcp {
             snd_room,
             acks,
             waiting,
-        ) {
-            return Made::Block {
-                block: Kcp::construct(conv, false, Kcp::INTERVAL),
-            };
-        }
-        Made::Refused {
-            why: Refusal::BadPool,
-        }
+        )
     }
 
-    // The same of a block that hands out a stream of bytes.
+    // A fresh block that carries a stream of bytes.
     pub fn new_stream(
         conv: u32,
         rcv_order: &[u32],
@@ -105,7 +111,10 @@ impl Kcp {
     ) -> Made
         ensures { λ r. ⌜ Makes (record { rcvOrder = now («rcv_order» .entry); rcvRecords = now («rcv_records» .entry); rcvRoom = now («rcv_room» .entry); sndOrder = now («snd_order» .entry); sndRecords = now («snd_records» .entry); sndRoom = now («snd_room» .entry); acks = now (acks .entry); waiting = now (waiting .entry) }) (freshStream conv) r ⌝ }
     {
-        if lent_sizes(
+        Kcp::make(
+            conv,
+            true,
+            Kcp::INTERVAL,
             rcv_order,
             rcv_records,
             rcv_room,
@@ -114,13 +123,6 @@ impl Kcp {
             snd_room,
             acks,
             waiting,
-        ) {
-            return Made::Block {
-                block: Kcp::construct(conv, true, Kcp::INTERVAL),
-            };
-        }
-        Made::Refused {
-            why: Refusal::BadPool,
-        }
+        )
     }
 }

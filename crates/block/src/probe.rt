@@ -2,6 +2,7 @@
 ghost use mathlib.Core.Path.{_≡_};
 ghost use Rattle.block.specs.Fresh.{freshProbe};
 ghost use Rattle.block.specs.WellFormed.{probeFits};
+use crate::Kcp;
 use crate::sizes::within;
 use crate::wide;
 
@@ -31,6 +32,10 @@ impl Probe {
         if wait == 0 {
             return true;
         }
-        within(7000, wide(wait), 120_000)
+        within(
+            Kcp::PROBE_INIT as usize,
+            wide(wait),
+            Kcp::PROBE_LIMIT as usize,
+        )
     }
 }

@@ -36,7 +36,7 @@ impl Receiver {
     {
         let largest = wide16(self.largest);
         both(
-            within(128, wide16(self.rcv_wnd), largest),
+            within(Kcp::WND_RCV as usize, wide16(self.rcv_wnd), largest),
             both(wide(self.queued) <= largest, wide(self.held) <= largest),
         )
     }

@@ -31,10 +31,10 @@ fn interval_of(interval: u32) -> u32
 fn interval_of_signed(interval: i32) -> u32
     ensures { λ r. ⌜ r ≡ intervalOfSigned interval ⌝ }
 {
-    if interval < 10 {
+    if interval < Kcp::INTERVAL_LEAST as i32 {
         return Kcp::INTERVAL_LEAST;
     }
-    if 5000 < interval {
+    if (Kcp::INTERVAL_MOST as i32) < interval {
         return Kcp::INTERVAL_MOST;
     }
     interval as u32
@@ -81,7 +81,7 @@ impl Kcp {
         ensures { λ r. ⌜ MtuSet self mtu r ⌝ }
     {
         let mut k = self;
-        if within(50, mtu, 1500) {
+        if within(Kcp::MTU_LEAST, mtu, Kcp::MTU_MOST) {
             let m = mtu as u32;
             let mss = m - Kcp::OVERHEAD;
             k.settings.mtu = m;

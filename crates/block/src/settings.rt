@@ -44,7 +44,7 @@ impl Settings {
         ensures { λ r. ⌜ r ≡ settingsFit self ⌝ }
     {
         let mtu = self.mtu;
-        if within(50, wide(mtu), 1500) {
+        if within(Kcp::MTU_LEAST, wide(mtu), Kcp::MTU_MOST) {
             return self.mss == mtu - Kcp::OVERHEAD;
         }
         false

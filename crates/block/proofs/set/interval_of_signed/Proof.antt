@@ -5,12 +5,19 @@ use lib.Signed.{ltZ}
 use Rattle.serial.specs.Branch.{pick-true, pick-false}
 use Rattle.block.specs.Setters.{intervalOfSigned}
 use Rattle.block.proofs.Signed.{plain, cast, not-under, whole}
+use borrow.Author.Needs.{needs}
 use Rattle.block.proofs.set.interval_of_signed.Statement.{statement}
 use Rattle.block.proofs.set.interval_of_signed.Tie as tie
+
+cast-if1 : tie.Need-cast-if1
+cast-if1 c = search needs
 
 returns : tie.Need-returns
 unfolding intervalOfSigned
 returns c = sym (pick-true _ _ (plain (λ (z : ℤ). ltZ z (pos 10)) (c .before .fits .interval) (c .if1 .taken)))
+
+cast-if2 : tie.Need-cast-if2
+cast-if2 c = search needs
 
 returns-2 : tie.Need-returns-2
 unfolding intervalOfSigned
@@ -30,4 +37,5 @@ returns-3 c =
     cast f ∙ sym (pick-false _ _ (plain (λ (z : ℤ). ltZ z (pos 10)) f (c .before .if1 .left)) ∙ pick-false _ _ (plain (ltZ (pos 5000)) f (c .if2 .left)))
 
 pub interval-of-signed-spec : {M : Type 1} → statement M
-interval-of-signed-spec = tie.close (tie.spec returns returns-2 cast-result returns-3)
+interval-of-signed-spec =
+    tie.close (tie.spec cast-if1 returns cast-if2 returns-2 cast-result returns-3)

@@ -11,8 +11,14 @@ returns : tie.Need-returns
 unfolding probeFits
 returns c = has _ (eq-eqb _ _ (c .if1 .taken))
 
+cast-within : tie.Need-cast-within
+cast-within c = search needs
+
 wide-requires : tie.Need-wide-requires
 wide-requires c κs = search needs
+
+cast-within-2 : tie.Need-cast-within-2
+cast-within-2 c = search needs
 
 within-requires : tie.Need-within-requires
 within-requires c κs = search needs
@@ -22,4 +28,5 @@ unfolding probeFits
 returns-2 c = c .within .ensures ∙ rw (c .before .wide .ensures .0) (lacks _ (ne-eqb _ _ (c .before .before .if1 .left)))
 
 pub fits-spec : {M : Type 1} → statement M
-fits-spec = tie.close (tie.spec returns wide-requires within-requires returns-2)
+fits-spec =
+    tie.close (tie.spec returns cast-within wide-requires cast-within-2 within-requires returns-2)

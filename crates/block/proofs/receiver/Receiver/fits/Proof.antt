@@ -7,6 +7,9 @@ use Rattle.block.proofs.receiver.Receiver.fits.Tie as tie
 wide16-requires : tie.Need-wide16-requires
 wide16-requires c κs = search needs
 
+cast-within : tie.Need-cast-within
+cast-within c = search needs
+
 wide16-requires-2 : tie.Need-wide16-requires-2
 wide16-requires-2 c κs = search needs
 
@@ -37,6 +40,7 @@ fits-spec =
     tie.close
     (tie.spec
     wide16-requires
+    cast-within
     wide16-requires-2
     within-requires
     wide-requires
