@@ -38,9 +38,10 @@ module _ {m : Lent} {k : Kcp} where
   made-once p q = p .answer ∙ sym (q .answer)
 
 module _ {k : Kcp} {mtu : ℕ} where
-  pub mtu-set : mtuSize mtu ≡ true → MtuSet k mtu (record { block = withSettings k (withMtu (k .settings) mtu (mssOf mtu)); answer = Done })
+  pub mtu-set : {b : Kcp} → mtuSize mtu ≡ true → b ≡ withSettings k (withMtu (k .settings) mtu (mssOf mtu)) → MtuSet k mtu (record { block = b; answer = Done })
   unfolding setMtu
-  mtu-set h = record { outcome = sym (pick-true _ _ h); refusal = sym (pick-true _ _ h); values = sym (pick-true _ _ h) }
+  mtu-set h e =
+      record { outcome = ap (λ (b : Kcp). record { block = b; answer = Done }) e ∙ sym (pick-true _ _ h); refusal = sym (pick-true _ _ h); values = sym (pick-true _ _ h) }
 
   pub mtu-refused : mtuSize mtu ≡ false → MtuSet k mtu (record { block = k; answer = AnswerRefused (InvalidMtu mtu) })
   unfolding setMtu

@@ -23,6 +23,7 @@ pub mod sender; // the numbers of the sending side
 pub mod sizes; // the tests of lent sizes
 pub mod make; // the constructors
 pub mod fit; // the tests of the block
+pub mod with; // the block with one part changed
 pub mod set; // the setters
 pub mod get; // the getters
 
@@ -48,34 +49,41 @@ impl Kcp {
     pub const MTU_LEAST: usize = 50;
 
     pub const MTU_MOST: usize = 1500;
+
     // The windows and the threshold of a fresh block; no receive window is under WND_RCV.
     pub const WND_SND: u16 = 32;
 
     pub const WND_RCV: u16 = 128;
 
     pub const THRESH_INIT: u16 = 2;
+
     // The flush interval of a fresh block, the least and the most.
     pub const INTERVAL: u32 = 100;
 
     pub const INTERVAL_LEAST: u32 = 10;
 
     pub const INTERVAL_MOST: u32 = 5000;
+
     // The least timeout with nodelay, and without.
     pub const RTO_NDL: u32 = 30;
 
     pub const RTO_MIN: u32 = 100;
+
     // How often a segment is resent fast, and how often at all before the link is dead.
     pub const FASTACK_LIMIT: u32 = 5;
 
     pub const DEADLINK: u32 = 20;
+
     // The first and the longest wait of the window probe.
     pub const PROBE_INIT: u32 = 7000;
 
     pub const PROBE_LIMIT: u32 = 120_000;
+
     // The bits of the probe: an ask and a tell are to go out.
     pub const ASK_SEND: u32 = 1;
 
     pub const ASK_TELL: u32 = 2;
+
     // The lent slots and pairs: least and most; the numbers of a record and of a pair.
     pub const RCV_LEAST: usize = 256;
 
@@ -92,6 +100,7 @@ impl Kcp {
     pub const ACKS_MOST: usize = 4096;
 
     pub const ACK_PAIR: usize = 2;
+
     // The bytes of a payload slot, and the bytes that may wait.
     pub const ROOM: usize = 1476;
 

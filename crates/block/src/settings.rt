@@ -2,7 +2,8 @@
 ghost use mathlib.Core.Path.{_≡_};
 ghost use Rattle.block.specs.Fresh.{freshSettings};
 ghost use Rattle.block.specs.WellFormed.{settingsFit};
-ghost use Rattle.block.specs.Parts.{withNodelay, withFastresend};
+ghost use Rattle.block.specs.Parts.{withMtu, withNodelay, withFastresend};
+ghost use Rattle.block.specs.Setters.{resendOf};
 use crate::Kcp;
 use crate::sizes::within;
 use crate::wide;
@@ -18,6 +19,16 @@ pub struct Settings {
     pub fastresend: u32,
     pub fastlimit: u32,
     pub dead_link: u32,
+}
+
+// What fastresend becomes: a negative number keeps it.
+pub fn resend_of(fastresend: u32, resend: i32) -> u32
+    ensures { λ r. ⌜ r ≡ resendOf fastresend resend ⌝ }
+{
+    if 0 <= resend {
+        return resend as u32;
+    }
+    fastresend
 }
 
 impl Settings {
@@ -50,9 +61,18 @@ impl Settings {
         false
     }
 
-    // The settings with nodelay, nocwnd and fastresend set.
-    pub fn with_nodelay(self, nodelay: bool, nc: bool, fastresend: u32) -> Settings
-        ensures { λ r. ⌜ r ≡ withFastresend (withNodelay self nodelay nc) fastresend ⌝ }
+    // The settings with this mtu and this mss.
+    pub fn with_mtu(mut self, mtu: u32, mss: u32) -> Settings
+        ensures { λ r. ⌜ r ≡ withMtu self mtu mss ⌝ }
+    {
+        self.mtu = mtu;
+        self.mss = mss;
+        self
+    }
+
+    // The settings with nodelay, fastresend unless the number is negative, and nocwnd.
+    pub fn with_nodelay(self, nodelay: bool, resend: i32, nc: bool) -> Settings
+        ensures { λ r. ⌜ r ≡ withFastresend (withNodelay self nodelay nc) (resendOf (self .fastresend) resend) ⌝ }
     {
         Settings {
             conv: self.conv,
@@ -62,7 +82,7 @@ impl Settings {
             nocwnd: nc,
             stream: self.stream,
             input_conv: self.input_conv,
-            fastresend: fastresend,
+            fastresend: resend_of(self.fastresend, resend),
             fastlimit: self.fastlimit,
             dead_link: self.dead_link,
         }

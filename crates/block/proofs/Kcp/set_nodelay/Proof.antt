@@ -5,12 +5,6 @@ use borrow.Author.Needs.{needs}
 use Rattle.block.proofs.Kcp.set_nodelay.Statement.{statement}
 use Rattle.block.proofs.Kcp.set_nodelay.Tie as tie
 
-resend-of-requires : tie.Need-resend-of-requires
-resend-of-requires c κs = search needs
-
-with-nodelay-requires : tie.Need-with-nodelay-requires
-with-nodelay-requires c κs = search needs
-
 minrto-of-requires : tie.Need-minrto-of-requires
 minrto-of-requires c κs = search needs
 
@@ -23,21 +17,27 @@ interval-of-signed-requires c κs = search needs
 with-interval-requires : tie.Need-with-interval-requires
 with-interval-requires c κs = search needs
 
+with-clock-requires : tie.Need-with-clock-requires
+with-clock-requires c κs = search needs
+
+with-nodelay-requires : tie.Need-with-nodelay-requires
+with-nodelay-requires c κs = search needs
+
 with-settings-requires : tie.Need-with-settings-requires
 with-settings-requires c κs = search needs
 
 returns : tie.Need-returns
 returns c =
     let s = c .before .before .before .before in
-    let f = s .before .before .before .before .fits in
+    let f = s .before .before .before .before .before .fits in
     rw (
       c .with-settings .ensures,
-      c .before .with-interval .ensures,
-      c .before .before .interval-of-signed .ensures,
-      c .before .before .before .set-rx-minrto .ensures,
-      s .minrto-of .ensures,
-      s .before .with-nodelay .ensures,
-      s .before .before .resend-of .ensures,
+      c .before .with-nodelay .ensures,
+      c .before .before .with-clock .ensures,
+      c .before .before .before .with-interval .ensures,
+      s .interval-of-signed .ensures,
+      s .before .set-rx-minrto .ensures,
+      s .before .before .minrto-of .ensures,
       toZ-ofZ {w = w32} (f .interval),
       toZ-ofZ {w = w32} (f .resend),
     )
@@ -46,11 +46,11 @@ pub set-nodelay-spec : {M : Type 1} → statement M
 set-nodelay-spec =
     tie.close
     (tie.spec
-    resend-of-requires
-    with-nodelay-requires
     minrto-of-requires
     set-rx-minrto-requires
     interval-of-signed-requires
     with-interval-requires
+    with-clock-requires
+    with-nodelay-requires
     with-settings-requires
     returns)

@@ -1,12 +1,12 @@
--- `block::set::resend_of` meets its contract. Assumes nothing.
+-- `block::settings::resend_of` meets its contract. Assumes nothing.
 use mathlib.Core.Path.{sym, _∙_}
 use lib.IntN.{pos}
 use lib.Signed.{leZ}
 use Rattle.serial.specs.Branch.{pick-true, pick-false}
 use Rattle.block.specs.Setters.{resendOf}
 use Rattle.block.proofs.Signed.{plain, cast, from-zero, whole}
-use Rattle.block.proofs.set.resend_of.Statement.{statement}
-use Rattle.block.proofs.set.resend_of.Tie as tie
+use Rattle.block.proofs.settings.resend_of.Statement.{statement}
+use Rattle.block.proofs.settings.resend_of.Tie as tie
 
 cast-result : tie.Need-cast-result
 cast-result c =

@@ -1,4 +1,4 @@
--- `block::set::interval_of_signed` meets its contract. By the two tests; what is left is not negative. Assumes nothing.
+-- `block::clock::interval_of_signed` meets its contract. By the two tests; what is left is not negative. Assumes nothing.
 use mathlib.Core.Path.{sym, _∙_}
 use lib.IntN.{ℤ, pos}
 use lib.Signed.{ltZ}
@@ -6,8 +6,8 @@ use Rattle.serial.specs.Branch.{pick-true, pick-false}
 use Rattle.block.specs.Setters.{intervalOfSigned}
 use Rattle.block.proofs.Signed.{plain, cast, not-under, whole}
 use borrow.Author.Needs.{needs}
-use Rattle.block.proofs.set.interval_of_signed.Statement.{statement}
-use Rattle.block.proofs.set.interval_of_signed.Tie as tie
+use Rattle.block.proofs.clock.interval_of_signed.Statement.{statement}
+use Rattle.block.proofs.clock.interval_of_signed.Tie as tie
 
 cast-if1 : tie.Need-cast-if1
 cast-if1 c = search needs

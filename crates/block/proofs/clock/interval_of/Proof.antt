@@ -1,10 +1,10 @@
--- `block::set::interval_of` meets its contract. By the two tests. Assumes nothing.
+-- `block::clock::interval_of` meets its contract. By the two tests. Assumes nothing.
 use mathlib.Core.Path.{sym, _∙_}
 use borrow.Author.Tests.{lt-ltb, le-ltb}
 use Rattle.serial.specs.Branch.{pick-true, pick-false}
 use Rattle.block.specs.Setters.{intervalOf}
-use Rattle.block.proofs.set.interval_of.Statement.{statement}
-use Rattle.block.proofs.set.interval_of.Tie as tie
+use Rattle.block.proofs.clock.interval_of.Statement.{statement}
+use Rattle.block.proofs.clock.interval_of.Tie as tie
 
 returns : tie.Need-returns
 unfolding intervalOf
