@@ -50,12 +50,14 @@ impl Kcp {
 
     pub const MTU_MOST: usize = 1500;
 
-    // The windows and the threshold of a fresh block; no receive window is under WND_RCV.
+    // The windows and the threshold of a fresh block; no receive window is under WND_RCV, and no threshold under THRESH_MIN.
     pub const WND_SND: u16 = 32;
 
     pub const WND_RCV: u16 = 128;
 
     pub const THRESH_INIT: u16 = 2;
+
+    pub const THRESH_MIN: u16 = 2;
 
     // The flush interval of a fresh block, the least and the most.
     pub const INTERVAL: u32 = 100;

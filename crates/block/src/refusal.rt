@@ -1,6 +1,6 @@
 // The sixteen refusals, and the answer of a call that answers nothing else.
 ghost use mathlib.Core.Path.{_≡_};
-ghost use Rattle.block.specs.Refusals.{numberOf, valuesOf, rowOf};
+ghost use Rattle.block.specs.Refusals.{numberOf, valuesOf, numberOfAnswer, rowOf};
 
 // Why a call was refused, with the values that go with it.
 pub enum Refusal {
@@ -105,6 +105,18 @@ impl Refusal {
                 first: 0,
                 second: 0,
             },
+        }
+    }
+}
+
+impl Answer {
+    // The number of the refusal, or 0.
+    pub fn number(self) -> u32
+        ensures { λ r. ⌜ r ≡ numberOfAnswer self ⌝ }
+    {
+        match self {
+            Answer::Done => 0,
+            Answer::Refused { why } => why.number(),
         }
     }
 }

@@ -1,4 +1,4 @@
-// The block with one part changed.
+// The block with one part changed; the others stay.
 ghost use mathlib.Core.Path.{_≡_};
 ghost use Rattle.block.specs.Parts.{withSettings, withClock, withEstimator, withCongestion, withProbe, withReceiver, withAckList, withSender};
 use crate::Kcp;
@@ -11,8 +11,8 @@ use crate::sender::Sender;
 use crate::settings::Settings;
 use estimator::Estimator;
 
-// Each leaves the other parts.
 impl Kcp {
+    // The block with these settings.
     pub fn with_settings(mut self, settings: Settings) -> Kcp
         ensures { λ r. ⌜ r ≡ withSettings self settings ⌝ }
     {
@@ -20,6 +20,7 @@ impl Kcp {
         self
     }
 
+    // The block with this clock.
     pub fn with_clock(mut self, clock: Clock) -> Kcp
         ensures { λ r. ⌜ r ≡ withClock self clock ⌝ }
     {
@@ -27,6 +28,7 @@ impl Kcp {
         self
     }
 
+    // The block with this estimator.
     pub fn with_estimator(mut self, estimator: Estimator) -> Kcp
         ensures { λ r. ⌜ r ≡ withEstimator self estimator ⌝ }
     {
@@ -34,6 +36,7 @@ impl Kcp {
         self
     }
 
+    // The block with these windows of the sending side.
     pub fn with_congestion(mut self, congestion: Congestion) -> Kcp
         ensures { λ r. ⌜ r ≡ withCongestion self congestion ⌝ }
     {
@@ -41,6 +44,7 @@ impl Kcp {
         self
     }
 
+    // The block with this probe.
     pub fn with_probe(mut self, probe: Probe) -> Kcp
         ensures { λ r. ⌜ r ≡ withProbe self probe ⌝ }
     {
@@ -48,6 +52,7 @@ impl Kcp {
         self
     }
 
+    // The block with these numbers of the receiving side.
     pub fn with_receiver(mut self, receiver: Receiver) -> Kcp
         ensures { λ r. ⌜ r ≡ withReceiver self receiver ⌝ }
     {
@@ -55,6 +60,7 @@ impl Kcp {
         self
     }
 
+    // The block with so much of the ack memory in use.
     pub fn with_acklist(mut self, acklist: AckList) -> Kcp
         ensures { λ r. ⌜ r ≡ withAckList self acklist ⌝ }
     {
@@ -62,6 +68,7 @@ impl Kcp {
         self
     }
 
+    // The block with these numbers of the sending side.
     pub fn with_sender(mut self, sender: Sender) -> Kcp
         ensures { λ r. ⌜ r ≡ withSender self sender ⌝ }
     {
