@@ -1,0 +1,93 @@
+-- Each test of Sizes and WellFormed is true exactly when the record of facts beside it holds. Assumes nothing.
+use Prim.Native.Nat.{ℕ, _+_, _*_, _≤_}
+use mathlib.Core.Path.{_≡_, refl}
+use mathlib.Core.Bool.{Bool, true, false, _&&_, _||_}
+use mathlib.Core.Logic.{_⊎_, inl, inr, ⊎-elim}
+use native.Mathlib.Omega.{arith}
+use lib.Dec.{leb, eqb}
+use borrow.Author.Tests.{leb-true, le-leb, eqb-true, eq-eqb}
+use Rattle.block.specs.declared.settings.Settings.{Settings}
+use Rattle.block.specs.declared.probe.Probe.{Probe}
+use Rattle.block.specs.declared.receiver.Receiver.{Receiver}
+use Rattle.block.specs.declared.Kcp.{Kcp}
+use Rattle.block.specs.Sizes.{within, Within, mssOf, pairs, poolSizes, PoolSizes, ackSizes, AckSizes}
+use Rattle.block.specs.WellFormed.{settingsFit, SettingsFit, probeFits, ProbeFits, receiverFits, ReceiverFits, ownNumbers, OwnNumbers, wellFormed, WellFormed}
+
+-- the test t is true exactly when P holds
+pub record Exactly (t : Bool) (P : Type 0) : Type 0 where
+  pub holds : t ≡ true → P
+  pub tests : P → t ≡ true
+
+pub exactly-le : (a b : ℕ) → Exactly (leb a b) (a ≤ b)
+exactly-le a b = record { holds = leb-true a b; tests = le-leb a b }
+
+pub exactly-eq : (a b : ℕ) → Exactly (eqb a b) (a ≡ b)
+exactly-eq a b = record { holds = eqb-true a b; tests = eq-eqb a b }
+
+pub exactly-both : {s t : Bool} {P Q : Type 0} → Exactly s P → Exactly t Q → Exactly (s && t) (P × Q)
+exactly-both {s = true} p q = record { holds = λ h. (p .holds refl, q .holds h); tests = λ x. q .tests (x .1) }
+exactly-both {s = false} p q = record { holds = λ h. (p .holds h, q .holds (cc)); tests = λ x. p .tests (x .0) }
+
+pub exactly-either : {s t : Bool} {P Q : Type 0} → Exactly s P → Exactly t Q → Exactly (s || t) (P ⊎ Q)
+exactly-either {s = true} p q = record { holds = λ h. inl (p .holds h); tests = λ x. refl }
+exactly-either {s = false} p q = record { holds = λ h. inr (q .holds h); tests = λ x. ⊎-elim (λ a. (cc (p .tests a))) (q .tests) x }
+
+-- of facts that say the same
+pub exactly-as : {t : Bool} {P Q : Type 0} → (P → Q) → (Q → P) → Exactly t P → Exactly t Q
+exactly-as f g p = record { holds = λ h. f (p .holds h); tests = λ x. p .tests (g x) }
+
+-- ---- sizes
+
+pub exactly-within : (least x most : ℕ) → Exactly (within least x most) (Within least x most)
+exactly-within least x most =
+    exactly-as (λ p. record { low = p .0; high = p .1 }) (λ w. (w .low, w .high)) (exactly-both (exactly-le least x) (exactly-le x most))
+
+pub pool-sizes : (least most width order records room : ℕ) → Exactly (poolSizes least most width order records room) (PoolSizes least most width order records room)
+pool-sizes least most width order records room =
+    exactly-as
+    (λ p. record { slots = p .0; recorded = p .1 .0; roomy = p .1 .1 })
+    (λ w. (w .slots, (w .recorded, w .roomy)))
+    (exactly-both (exactly-within least order most) (exactly-both (exactly-eq records (width * order)) (exactly-eq room (1476 * order))))
+
+pub ack-sizes : (acks waiting : ℕ) → Exactly (ackSizes acks waiting) (AckSizes acks waiting)
+ack-sizes acks waiting =
+    exactly-as
+    (λ p. record { listed = p .0; paired = p .1 .0; kept = p .1 .1 })
+    (λ w. (w .listed, (w .paired, w .kept)))
+    (exactly-both (exactly-within 128 (pairs acks) 4096) (exactly-both (exactly-eq acks (2 * pairs acks)) (exactly-eq waiting 1500)))
+
+-- ---- the block
+
+pub settings-fit : (s : Settings) → Exactly (settingsFit s) (SettingsFit s)
+unfolding settingsFit
+settings-fit s =
+    exactly-as (λ p. record { mtu = p .0; mss = p .1 }) (λ w. (w .mtu, w .mss)) (exactly-both (exactly-within 50 (s .mtu) 1500) (exactly-eq (s .mss) (mssOf (s .mtu))))
+
+pub probe-fits : (p : Probe) → Exactly (probeFits p) (ProbeFits p)
+unfolding probeFits
+probe-fits p =
+    exactly-as (λ x. record { wait = x }) (λ w. w .wait) (exactly-either (exactly-eq (p .«probe_wait») 0) (exactly-within 7000 (p .«probe_wait») 120000))
+
+pub receiver-fits : (r : Receiver) → Exactly (receiverFits r) (ReceiverFits r)
+unfolding receiverFits
+receiver-fits r =
+    exactly-as
+    (λ p. record { window = p .0; queue = p .1 .0; buffer = p .1 .1 })
+    (λ w. (w .window, (w .queue, w .buffer)))
+    (exactly-both (exactly-within 128 (r .«rcv_wnd») (r .largest)) (exactly-both (exactly-le (r .queued) (r .largest)) (exactly-le (r .held) (r .largest))))
+
+pub own-numbers : (k : Kcp) → Exactly (ownNumbers k) (OwnNumbers k)
+unfolding ownNumbers
+own-numbers k =
+    exactly-as
+    (λ p. record { settings = p .0; probe = p .1 .0; receiver = p .1 .1 .0; waiting = p .1 .1 .1 })
+    (λ w. (w .settings, (w .probe, (w .receiver, w .waiting))))
+    (exactly-both (settings-fit (k .settings)) (exactly-both (probe-fits (k .probe)) (exactly-both (receiver-fits (k .receiver)) (exactly-le (k .acklist .waiting) 1500))))
+
+pub well-formed : (R P A : ℕ) (k : Kcp) → Exactly (wellFormed R P A k) (WellFormed R P A k)
+unfolding wellFormed
+well-formed R P A k =
+    exactly-as
+    (λ p. record { own = p .0; receive = p .1 .0; send = p .1 .1 .0; acks = p .1 .1 .1 })
+    (λ w. (w .own, (w .receive, (w .send, w .acks))))
+    (exactly-both (own-numbers k) (exactly-both (exactly-le (2 * k .receiver .largest) R) (exactly-both (exactly-le (k .sender .flying + k .sender .unsent) P) (exactly-le (k .acklist .acks) A))))

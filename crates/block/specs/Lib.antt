@@ -1,0 +1,6 @@
+pub mod Refusals
+pub mod Parts
+pub mod Sizes
+pub mod Fresh
+pub mod WellFormed
+pub mod Setters

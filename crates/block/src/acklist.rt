@@ -1,0 +1,37 @@
+// How much of the ack memory is in use: the pairs of the ack list, and the bytes that wait.
+ghost use mathlib.Core.Path.{_≡_};
+ghost use Rattle.block.specs.Fresh.{freshAckList};
+ghost use Rattle.block.specs.WellFormed.{waitingFits, ackNumbers};
+use crate::Kcp;
+use crate::wide;
+
+pub struct AckList {
+    pub acks: u32,
+    pub waiting: u32,
+}
+
+impl AckList {
+    // The ack memory of a fresh block: nothing is in use.
+    pub fn new() -> AckList
+        ensures { λ r. ⌜ r ≡ freshAckList ⌝ }
+    {
+        AckList {
+            acks: 0,
+            waiting: 0,
+        }
+    }
+
+    // Whether at most 1,500 bytes wait.
+    pub fn waiting_fits(self) -> bool
+        ensures { λ r. ⌜ r ≡ waitingFits self ⌝ }
+    {
+        wide(self.waiting) <= Kcp::WAITING
+    }
+
+    // Whether the ack list is at most as long as the pairs lent.
+    pub fn ack_numbers(self, pairs: usize) -> bool
+        ensures { λ r. ⌜ r ≡ ackNumbers pairs self ⌝ }
+    {
+        wide(self.acks) <= pairs
+    }
+}
