@@ -1,4 +1,5 @@
-//! Document 01's worked values, run on a side. A row that only the port can show says so for the Rust.
+//! Document 01's worked values that concern the Rust, run on a side, and after them two of its plausible slips. The rows that only
+//! the port can show (a window over half of the slots, 1,501 bytes, mtu 1,501) come with the port's calls.
 
 use crate::call::{Call, Fill, Header, Piece, Sizes, ACK, PUSH, TELL};
 use crate::side::{Answer, Outcome, Side};
