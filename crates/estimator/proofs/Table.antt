@@ -7,7 +7,7 @@ use mathlib.Core.List.{List, [], _∷_, map}
 use lib.IntN.{ℤ, pos, negsuc}
 use Rattle.serial.specs.Branch.{pick}
 use Rattle.serial.specs.Wrap.{signed32, timediff}
-use Rattle.serial.specs.Window.{inWindow, acknowledged}
+use Rattle.serial.specs.Window.{distance, inWindow, acknowledged}
 use Rattle.estimator.specs.declared.Estimator.{Estimator}
 use Rattle.estimator.specs.Estimate.{fresh, timed, measured}
 
@@ -55,5 +55,5 @@ table =
     ∷ []
 
 pub worked : map (λ (r : Row). r .gives) table ≡ map (λ (r : Row). r .says) table
-unfolding row push after times table pick signed32 timed measured
+unfolding row push after times table pick distance signed32 timed measured
 worked = refl

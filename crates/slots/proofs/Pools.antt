@@ -4,7 +4,7 @@ use Prim.Native.Nat.{ℕ, _*_, _≤_, _<_}
 use native.Mathlib.Omega.{arith}
 use mathlib.Core.Bool.{Bool, true, false, _&&_}
 use mathlib.Core.List.{List}
-use lib.ListN.{length, take, getD, set, replicate}
+use lib.ListN.{length, take, getD, set, replicate, length-replicate}
 use lib.Seq.{length-take-le, getD-take}
 use lib.Dec.{eqb, leb}
 use borrow.Author.Tests.{eq-eqb, le-leb, leb-true, eqb-true}
@@ -12,7 +12,7 @@ use Rattle.slots.specs.Entries.{entryOf, slotOf, lengthOf, uses, faults,
 use Rattle.slots.specs.Marks.{marked, repeats, firstFree}
 use Rattle.lent.specs.Order.{orderIn, orderOut, orderFrom}
 use Rattle.lent.specs.Records.{stored}
-use Rattle.slots.specs.Pool.{Lists, lists, segment, Pool, fits, tested, placed, takenOut, dropped, longer, filled, renewed}
+use Rattle.slots.specs.Pool.{Lists, lists, segment, Pool, fits, wellFormed, tested, placed, takenOut, dropped, longer, filled, renewed}
 use Rattle.slots.proofs.Totals.{slots-below}
 use Rattle.slots.proofs.Marking.{none-twice, none-repeated, first-lowest}
 
@@ -93,6 +93,32 @@ module _ (w n : ℕ) (p : Lists) where
     λ t. pool-of good (none-twice (length m) (take n (p .order)) (length (p .order)) h (fits-sound good) (ap (λ (q : List ℕ). repeats q (take n (p .order))) (sym z) ∙ sym e ∙ eqb-true _ _ t)),
     λ x. eq-eqb _ _ (e ∙ ap (λ (q : List ℕ). repeats q (take n (p .order))) z ∙ none-repeated (length m) (take n (p .order)) (x .once)),
   )
+
+  -- the test as a definition is the one of the facts
+  abbrev zeros : List ℕ
+  zeros = replicate (length (p .order)) 0
+
+  counted : fits w n p ≡ true → (eqb (repeats zeros (take n (p .order))) 0 ≡ true → Pool w n p) × (Pool w n p → eqb (repeats zeros (take n (p .order))) 0 ≡ true)
+  counted good =
+      let e : length zeros ≡ length (p .order) = length-replicate (length (p .order)) 0 in
+      judged zeros (repeats zeros (take n (p .order))) good (omega arith) (ap (λ (k : ℕ). replicate {A = ℕ} k 0) (sym e)) refl
+
+  pub well-pool : wellFormed w n p ≡ true → Pool w n p
+  unfolding wellFormed
+  well-pool t = let a = both _ _ t in counted (a .0) .0 (a .1)
+
+  pub pool-well : Pool w n p → wellFormed w n p ≡ true
+  unfolding wellFormed
+  pool-well x = rw (pool-fits x) (counted (pool-fits x) .1 x)
+
+  -- so a test that says true exactly when the pool is well formed is that one
+  pub well-is : (r : Bool) → (r ≡ true → Pool w n p) × (Pool w n p → r ≡ true) → r ≡ wellFormed w n p
+  well-is true e = sym (pool-well (e .0 refl))
+  well-is false e = go (wellFormed w n p) refl
+    where
+      go : (b : Bool) → wellFormed w n p ≡ b → false ≡ b
+      go true t = e .1 (well-pool t)
+      go false t = refl
 
   -- the marks of a well-formed pool, and the lowest free slot by them
   pub tested-marks : (m : List ℕ) → Pool w n p → tested w n p m ≡ marked m (take n (p .order))

@@ -4,11 +4,11 @@ use Prim.Native.Nat.{ℕ, _+_, _*_, _≤_}
 use mathlib.Core.Bool.{Bool, cond, _&&_}
 use mathlib.Core.Path.{_≡_}
 use mathlib.Core.List.{List, _++_}
-use lib.ListN.{length, take, getD, set}
+use lib.ListN.{length, take, getD, set, replicate}
 use lib.Dec.{eqb, leb}
 use Rattle.lent.specs.Order.{region, orderIn, orderOut, orderFrom}
 use Rattle.slots.specs.Entries.{entryOf, slotOf, lengthOf, uses, faults}
-use Rattle.slots.specs.Marks.{marked}
+use Rattle.slots.specs.Marks.{marked, repeats}
 use Rattle.lent.specs.Records.{stored, loaded, numberAt}
 
 -- the lists behind a pool's slices
@@ -59,6 +59,10 @@ fits w n p =
     && (leb n (length (p .order))
     && (eqb (length (p .records)) (length (p .order) * w)
     && (eqb (length (p .room)) (length (p .order) * 1476) && eqb (faults (length (p .order)) (take n (p .order))) 0)))
+
+-- the whole test: marked one after the other, no slot in use stands twice
+unfoldable pub wellFormed : ℕ → ℕ → Lists → Bool
+wellFormed w n p = fits w n p && eqb (repeats (replicate (length (p .order)) 0) (take n (p .order))) 0
 
 -- the marks m after the test
 unfoldable pub tested : ℕ → ℕ → Lists → List ℕ → List ℕ
