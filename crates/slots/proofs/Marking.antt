@@ -9,6 +9,7 @@ use mathlib.Core.List.{List, [], _∷_}
 use lib.ListN.{length, take, drop, getD, set, length-set, replicate, length-replicate}
 use lib.Seq.{drop-cons, drop-length, length-take-le, getD-take, getD-set-same, getD-set-other}
 use borrow.Author.Tests.{eq-eqb, ne-eqb}
+use Rattle.lent.specs.Order.{inserted}
 use Rattle.slots.specs.Entries.{slotOf, uses, faults, freeSlot}
 use Rattle.slots.specs.Marks.{marked, repeats, firstFree}
 use Rattle.slots.proofs.Totals.{uses-none, uses-own, uses-other, faults-cons, sound-slot}
@@ -186,3 +187,23 @@ first-lowest k slots l h n =
     (λ v g z. let u = marked-used (replicate k 0) l v (omega arith) (w .least v g) in omega arith)
     b
     (marked-free (replicate k 0) l (freeSlot l) (w .free) ∙ zero-at k (freeSlot l)))
+
+-- ---- one more slot is marked, in whatever place its entry is put in
+
+set-swap : (m : List ℕ) (s t x : ℕ) → set (set m s x) t x ≡ set (set m t x) s x
+set-swap [] s t x = refl
+set-swap (y ∷ m) zero zero x = refl
+set-swap (y ∷ m) zero (suc t) x = refl
+set-swap (y ∷ m) (suc s) zero x = refl
+set-swap (y ∷ m) (suc s) (suc t) x = ap (λ (r : List ℕ). y ∷ r) (set-swap m s t x)
+
+marked-set : (m l : List ℕ) (s : ℕ) → marked (set m s 1) l ≡ set (marked m l) s 1
+unfolding marked
+marked-set m [] s = refl
+marked-set m (e ∷ l) s = ap (λ (r : List ℕ). marked r l) (set-swap m s (slotOf e) 1) ∙ marked-set (set m (slotOf e) 1) l s
+
+pub marked-inserted : (m l : List ℕ) (i e : ℕ) → marked m (inserted l i e) ≡ set (marked m l) (slotOf e) 1
+unfolding marked inserted
+marked-inserted m l zero e = marked-set m l (slotOf e)
+marked-inserted m [] (suc i) e = refl
+marked-inserted m (x ∷ l) (suc i) e = marked-inserted (set m (slotOf x) 1) l i e

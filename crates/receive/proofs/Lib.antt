@@ -1,0 +1,6 @@
+pub mod Seen
+pub mod Numbers
+pub mod Steps
+pub mod Pushes
+pub mod Fronts
+pub mod Hands
