@@ -1,3 +1,4 @@
 pub mod Told
 pub mod Numbers
 pub mod Pools
+pub mod Words

@@ -15,6 +15,9 @@ use wire::Header;
 use wire::Number;
 use wire::Put;
 
+pub mod setters; // the setters over a block's words
+pub mod make; // the constructors of a block's words
+
 // timediff(a, b).
 #[no_mangle]
 pub extern "C" fn kcp_timediff(a: u32, b: u32) -> i32
