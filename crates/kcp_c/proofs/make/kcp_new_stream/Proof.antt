@@ -27,8 +27,7 @@ same-length c = search needs
 
 returns-3 : tie.Need-returns-3
 returns-3 c =
-    let m = c .before .before .before .before .before .before .before in
-    make-done _ _ _ (m .before .if1 .left) (m .new-stream .ensures) (c .before .before .before .before .before .made .given .1) (c .before .before .write .ensures)
+    make-done _ _ _ (c .before .before .before .before .before .before .before .before .if1 .left) (c .before .before .before .before .before .before .before .new-stream .ensures) (c .before .before .before .before .before .made .given .1) (c .before .before .write .ensures)
 
 pub kcp-new-stream-spec : {M : Type 1} → statement M
 kcp-new-stream-spec =
