@@ -15,8 +15,7 @@ use wire::Header;
 use wire::Number;
 use wire::Put;
 
-pub mod setters; // the setters over a block's words
-pub mod make; // the constructors of a block's words
+pub mod calls; // the calls over a block's words
 
 // timediff(a, b).
 #[no_mangle]

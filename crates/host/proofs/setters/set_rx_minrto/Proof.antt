@@ -1,9 +1,9 @@
--- `kcp_c::setters::kcp_input_conv` meets its contract. The law of words that are no block, and of a block that is set. Assumes nothing.
+-- `host::setters::set_rx_minrto` meets its contract. The law of words that are no block, and of a block that is set. Assumes nothing.
 use mathlib.Core.Path.{refl}
-use Rattle.kcp_c.proofs.Words.{held-length, set-refused, set-done}
+use Rattle.host.proofs.Words.{held-length, set-refused, set-done}
 use borrow.Author.Needs.{needs}
-use Rattle.kcp_c.proofs.setters.kcp_input_conv.Statement.{statement}
-use Rattle.kcp_c.proofs.setters.kcp_input_conv.Tie as tie
+use Rattle.host.proofs.setters.set_rx_minrto.Statement.{statement}
+use Rattle.host.proofs.setters.set_rx_minrto.Tie as tie
 
 read-requires : tie.Need-read-requires
 read-requires c κs = search needs
@@ -20,8 +20,8 @@ same-length c = search needs
 returns : tie.Need-returns
 returns c = set-refused _ _ _ (c .before .before .read .ensures) (c .enum-told .given .1)
 
-input-conv-requires : tie.Need-input-conv-requires
-input-conv-requires c κs = search needs
+set-rx-minrto-requires : tie.Need-set-rx-minrto-requires
+set-rx-minrto-requires c κs = search needs
 
 write-requires : tie.Need-write-requires
 write-requires c κs = held-length _ (c .before .before .before .before .before .read .ensures) (c .before .before .before .found .given .1)
@@ -32,10 +32,10 @@ same-length-2 c = search needs
 returns-2 : tie.Need-returns-2
 returns-2 c =
     let s = c .before .before .before .before .before .before in
-    set-done _ _ _ refl (s .before .before .read .ensures) (s .found .given .1) (c .before .before .before .before .input-conv .ensures) (c .before .before .write .ensures)
+    set-done _ _ _ refl (s .before .before .read .ensures) (s .found .given .1) (c .before .before .before .before .set-rx-minrto .ensures) (c .before .before .write .ensures)
 
-pub kcp-input-conv-spec : {M : Type 1} → statement M
-kcp-input-conv-spec =
+pub set-rx-minrto-spec : {M : Type 1} → statement M
+set-rx-minrto-spec =
     tie.close
     (tie.spec
     read-requires
@@ -43,7 +43,7 @@ kcp-input-conv-spec =
     enum-told
     same-length
     returns
-    input-conv-requires
+    set-rx-minrto-requires
     write-requires
     same-length-2
     returns-2)

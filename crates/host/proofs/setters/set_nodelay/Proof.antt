@@ -1,9 +1,11 @@
--- `kcp_c::setters::kcp_set_fast_resend` meets its contract. The law of words that are no block, and of a block that is set. Assumes nothing.
+-- `host::setters::set_nodelay` meets its contract. The law of words that are no block, and of a block that is set. Assumes nothing.
 use mathlib.Core.Path.{refl}
-use Rattle.kcp_c.proofs.Words.{held-length, set-refused, set-done}
+use mir.Syntax.{w32}
+use mir.Facts.{toZ-ofZ}
+use Rattle.host.proofs.Words.{held-length, set-refused, set-done}
 use borrow.Author.Needs.{needs}
-use Rattle.kcp_c.proofs.setters.kcp_set_fast_resend.Statement.{statement}
-use Rattle.kcp_c.proofs.setters.kcp_set_fast_resend.Tie as tie
+use Rattle.host.proofs.setters.set_nodelay.Statement.{statement}
+use Rattle.host.proofs.setters.set_nodelay.Tie as tie
 
 read-requires : tie.Need-read-requires
 read-requires c κs = search needs
@@ -20,8 +22,8 @@ same-length c = search needs
 returns : tie.Need-returns
 returns c = set-refused _ _ _ (c .before .before .read .ensures) (c .enum-told .given .1)
 
-set-fast-resend-requires : tie.Need-set-fast-resend-requires
-set-fast-resend-requires c κs = search needs
+set-nodelay-requires : tie.Need-set-nodelay-requires
+set-nodelay-requires c κs = search needs
 
 write-requires : tie.Need-write-requires
 write-requires c κs = held-length _ (c .before .before .before .before .before .read .ensures) (c .before .before .before .found .given .1)
@@ -32,10 +34,11 @@ same-length-2 c = search needs
 returns-2 : tie.Need-returns-2
 returns-2 c =
     let s = c .before .before .before .before .before .before in
-    set-done _ _ _ refl (s .before .before .read .ensures) (s .found .given .1) (c .before .before .before .before .set-fast-resend .ensures) (c .before .before .write .ensures)
+    let f = s .before .before .before .before .before .fits in
+    set-done _ _ _ refl (s .before .before .read .ensures) (s .found .given .1) (rw (toZ-ofZ {w = w32} (f .interval), toZ-ofZ {w = w32} (f .resend)) at (c .before .before .before .before .set-nodelay .ensures)) (c .before .before .write .ensures)
 
-pub kcp-set-fast-resend-spec : {M : Type 1} → statement M
-kcp-set-fast-resend-spec =
+pub set-nodelay-spec : {M : Type 1} → statement M
+set-nodelay-spec =
     tie.close
     (tie.spec
     read-requires
@@ -43,7 +46,7 @@ kcp-set-fast-resend-spec =
     enum-told
     same-length
     returns
-    set-fast-resend-requires
+    set-nodelay-requires
     write-requires
     same-length-2
     returns-2)

@@ -1,10 +1,10 @@
--- `kcp_c::setters::kcp_set_mtu` meets its contract. The law of words that are no block, and of a block that is set. Assumes nothing.
+-- `host::setters::set_mtu` meets its contract. The law of words that are no block, and of a block that is set. Assumes nothing.
 use mathlib.Core.Path.{ap, _∙_}
 use Rattle.block.specs.declared.set.Set.{Set}
-use Rattle.kcp_c.proofs.Words.{held-length, set-refused, set-done}
+use Rattle.host.proofs.Words.{held-length, set-refused, set-done}
 use borrow.Author.Needs.{needs}
-use Rattle.kcp_c.proofs.setters.kcp_set_mtu.Statement.{statement}
-use Rattle.kcp_c.proofs.setters.kcp_set_mtu.Tie as tie
+use Rattle.host.proofs.setters.set_mtu.Statement.{statement}
+use Rattle.host.proofs.setters.set_mtu.Tie as tie
 
 read-requires : tie.Need-read-requires
 read-requires c κs = search needs
@@ -40,8 +40,8 @@ returns-2 c =
     let e = m .set-mtu .ensures in
     set-done _ _ _ (c .number .ensures ∙ e .refusal) (s .before .before .read .ensures) (s .found .given .1) (ap (λ (x : Set). x .block) (e .outcome)) (c .before .before .before .write .ensures)
 
-pub kcp-set-mtu-spec : {M : Type 1} → statement M
-kcp-set-mtu-spec =
+pub set-mtu-spec : {M : Type 1} → statement M
+set-mtu-spec =
     tie.close
     (tie.spec
     read-requires

@@ -19,7 +19,7 @@ use Rattle.words.specs.declared.Found.the-variants.{Block as Held, NoBlock}
 use Rattle.words.specs.Words.{at, wordsOf, blockOf, isBlock, readOf}
 use Rattle.words.proofs.Reading.{found-block, found-none, block-length}
 use Rattle.words.proofs.Back.{words-back}
-use Rattle.kcp_c.specs.Words.{setWords, WordsSet, canMake, WordsMade}
+use Rattle.host.specs.Words.{setWords, WordsSet, canMake, WordsMade}
 
 -- ---- setters
 

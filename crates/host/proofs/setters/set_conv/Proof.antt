@@ -1,11 +1,9 @@
--- `kcp_c::setters::kcp_set_nodelay` meets its contract. The law of words that are no block, and of a block that is set. Assumes nothing.
+-- `host::setters::set_conv` meets its contract. The law of words that are no block, and of a block that is set. Assumes nothing.
 use mathlib.Core.Path.{refl}
-use mir.Syntax.{w32}
-use mir.Facts.{toZ-ofZ}
-use Rattle.kcp_c.proofs.Words.{held-length, set-refused, set-done}
+use Rattle.host.proofs.Words.{held-length, set-refused, set-done}
 use borrow.Author.Needs.{needs}
-use Rattle.kcp_c.proofs.setters.kcp_set_nodelay.Statement.{statement}
-use Rattle.kcp_c.proofs.setters.kcp_set_nodelay.Tie as tie
+use Rattle.host.proofs.setters.set_conv.Statement.{statement}
+use Rattle.host.proofs.setters.set_conv.Tie as tie
 
 read-requires : tie.Need-read-requires
 read-requires c κs = search needs
@@ -22,8 +20,8 @@ same-length c = search needs
 returns : tie.Need-returns
 returns c = set-refused _ _ _ (c .before .before .read .ensures) (c .enum-told .given .1)
 
-set-nodelay-requires : tie.Need-set-nodelay-requires
-set-nodelay-requires c κs = search needs
+set-conv-requires : tie.Need-set-conv-requires
+set-conv-requires c κs = search needs
 
 write-requires : tie.Need-write-requires
 write-requires c κs = held-length _ (c .before .before .before .before .before .read .ensures) (c .before .before .before .found .given .1)
@@ -34,11 +32,10 @@ same-length-2 c = search needs
 returns-2 : tie.Need-returns-2
 returns-2 c =
     let s = c .before .before .before .before .before .before in
-    let f = s .before .before .before .before .before .fits in
-    set-done _ _ _ refl (s .before .before .read .ensures) (s .found .given .1) (rw (toZ-ofZ {w = w32} (f .interval), toZ-ofZ {w = w32} (f .resend)) at (c .before .before .before .before .set-nodelay .ensures)) (c .before .before .write .ensures)
+    set-done _ _ _ refl (s .before .before .read .ensures) (s .found .given .1) (c .before .before .before .before .set-conv .ensures) (c .before .before .write .ensures)
 
-pub kcp-set-nodelay-spec : {M : Type 1} → statement M
-kcp-set-nodelay-spec =
+pub set-conv-spec : {M : Type 1} → statement M
+set-conv-spec =
     tie.close
     (tie.spec
     read-requires
@@ -46,7 +43,7 @@ kcp-set-nodelay-spec =
     enum-told
     same-length
     returns
-    set-nodelay-requires
+    set-conv-requires
     write-requires
     same-length-2
     returns-2)

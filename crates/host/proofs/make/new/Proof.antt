@@ -1,8 +1,8 @@
--- `kcp_c::make::kcp_new` meets its contract. The law of words that are not forty, of sizes that are refused, and of a block that is made. Assumes nothing.
-use Rattle.kcp_c.proofs.Words.{make-short, make-refused, make-done}
+-- `host::make::new` meets its contract. The law of words that are not forty, of sizes that are refused, and of a block that is made. Assumes nothing.
+use Rattle.host.proofs.Words.{make-short, make-refused, make-done}
 use borrow.Author.Needs.{needs}
-use Rattle.kcp_c.proofs.make.kcp_new.Statement.{statement}
-use Rattle.kcp_c.proofs.make.kcp_new.Tie as tie
+use Rattle.host.proofs.make.new.Statement.{statement}
+use Rattle.host.proofs.make.new.Tie as tie
 
 returns : tie.Need-returns
 returns c = make-short _ _ _ (c .if1 .taken)
@@ -29,8 +29,8 @@ returns-3 : tie.Need-returns-3
 returns-3 c =
     make-done _ _ _ (c .before .before .before .before .before .before .before .before .if1 .left) (c .before .before .before .before .before .before .before .new .ensures) (c .before .before .before .before .before .made .given .1) (c .before .before .write .ensures)
 
-pub kcp-new-spec : {M : Type 1} → statement M
-kcp-new-spec =
+pub new-spec : {M : Type 1} → statement M
+new-spec =
     tie.close
     (tie.spec
     returns

@@ -1,8 +1,8 @@
--- `kcp_c::make::kcp_new_stream` meets its contract. The law of words that are not forty, of sizes that are refused, and of a block that is made. Assumes nothing.
-use Rattle.kcp_c.proofs.Words.{make-short, make-refused, make-done}
+-- `host::make::new_stream` meets its contract. The law of words that are not forty, of sizes that are refused, and of a block that is made. Assumes nothing.
+use Rattle.host.proofs.Words.{make-short, make-refused, make-done}
 use borrow.Author.Needs.{needs}
-use Rattle.kcp_c.proofs.make.kcp_new_stream.Statement.{statement}
-use Rattle.kcp_c.proofs.make.kcp_new_stream.Tie as tie
+use Rattle.host.proofs.make.new_stream.Statement.{statement}
+use Rattle.host.proofs.make.new_stream.Tie as tie
 
 returns : tie.Need-returns
 returns c = make-short _ _ _ (c .if1 .taken)
@@ -29,8 +29,8 @@ returns-3 : tie.Need-returns-3
 returns-3 c =
     make-done _ _ _ (c .before .before .before .before .before .before .before .before .if1 .left) (c .before .before .before .before .before .before .before .new-stream .ensures) (c .before .before .before .before .before .made .given .1) (c .before .before .write .ensures)
 
-pub kcp-new-stream-spec : {M : Type 1} → statement M
-kcp-new-stream-spec =
+pub new-stream-spec : {M : Type 1} → statement M
+new-stream-spec =
     tie.close
     (tie.spec
     returns

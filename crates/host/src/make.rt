@@ -2,13 +2,12 @@
 // which leaves all. The lent memory is looked at only.
 ghost use mathlib.Core.Path.{_≡_};
 ghost use Rattle.block.specs.Fresh.{freshPlain, freshStream};
-ghost use Rattle.kcp_c.specs.Words.{WordsMade};
+ghost use Rattle.host.specs.Words.{WordsMade};
 use block::Kcp;
 use block::make::Made;
 
 // A fresh block that keeps messages apart.
-#[no_mangle]
-pub extern "C" fn kcp_new(
+pub fn new(
     words: &mut [u32],
     conv: u32,
     rcv_order: &[u32],
@@ -44,8 +43,7 @@ pub extern "C" fn kcp_new(
 }
 
 // A fresh block that carries a stream of bytes.
-#[no_mangle]
-pub extern "C" fn kcp_new_stream(
+pub fn new_stream(
     words: &mut [u32],
     conv: u32,
     rcv_order: &[u32],
