@@ -1,4 +1,5 @@
 -- `words::last_words` meets its contract. The short number and the halves of incr fit a word, by their types. Assumes nothing.
+use mathlib.Core.Path.{refl}
 use native.Mathlib.Omega.{arith}
 use Rattle.words.specs.Words.{lastWords}
 use borrow.Author.Needs.{needs}
@@ -31,7 +32,7 @@ cast-t11 c = omega (arith, c .struct-known8 .given .1 .1 .1 .1 .1 .0 .1 .1 .0)
 
 returns : tie.Need-returns
 unfolding lastWords
-returns c = search needs
+returns c = refl
 
 pub last-words-spec : {M : Type 1} → statement M
 last-words-spec =
