@@ -3,3 +3,4 @@
 pub mod exports;
 pub mod joined;
 pub mod memory;
+pub mod watch;

@@ -6,7 +6,7 @@ use driver::run::{replay, run, Finding, Plan, Replay};
 use driver::shrink::shrink;
 use driver::side::Side;
 use driver::{rust_side, Judge};
-use port::exports::HAS;
+use port::exports;
 use port::joined::Joined;
 use std::io::{self, Write};
 use std::process::exit;
@@ -76,10 +76,10 @@ fn profile(word: Option<String>) -> driver::generator::Profile {
 }
 
 fn sides(wanted: &Wanted) -> String {
-    if wanted.copy || HAS.is_empty() {
+    if wanted.copy || exports::all().is_empty() {
         return "a copy of the Rust".to_string();
     }
-    format!("the port for {}; a copy of the Rust for the rest", HAS.join(", "))
+    format!("the port for {}; a copy of the Rust for the rest", exports::all().join(", "))
 }
 
 /// The calls of a script, each with its line.
