@@ -26,7 +26,7 @@ pub const WORDS: [&str; 40] = [
     "queued", "held", "flying", "waiting_to_fly", "acks", "waiting",
 ];
 
-#[derive(Clone)]
+#[derive(Clone, PartialEq, Eq)]
 pub struct Pool {
     pub width: usize,
     pub order: Vec<u32>,
@@ -34,7 +34,7 @@ pub struct Pool {
     pub room: Vec<u8>,
 }
 
-#[derive(Clone)]
+#[derive(Clone, PartialEq, Eq)]
 pub struct Memory {
     pub words: Vec<u32>,
     pub receive: Pool,

@@ -50,7 +50,7 @@ impl Before {
         // the first entry of the order that must be what it was
         let from = match call {
             _ if refused => 0,
-            Call::Recv(_) => before,
+            Call::Recv(_) => after,
             Call::Push(..) if taken => after,
             _ => 0,
         };

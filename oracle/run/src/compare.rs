@@ -27,12 +27,21 @@ struct Wanted {
     /// Says on standard error how far it is: for a terminal.
     progress: bool,
     rows: bool,
+    departures: bool,
     /// The other side is the copy of the Rust alone.
     copy: bool,
 }
 
 fn arguments() -> Wanted {
-    let mut wanted = Wanted { plan: Plan::default(), script: None, brief: false, progress: false, rows: false, copy: false };
+    let mut wanted = Wanted {
+        plan: Plan::default(),
+        script: None,
+        brief: false,
+        progress: false,
+        rows: false,
+        departures: false,
+        copy: false,
+    };
     let mut words = Vec::new();
     let mut rest = std::env::args().skip(1);
     while let Some(word) = rest.next() {
@@ -42,12 +51,13 @@ fn arguments() -> Wanted {
             "--brief" => wanted.brief = true,
             "--copy" => wanted.copy = true,
             "--rows" => wanted.rows = true,
+            "--departures" => wanted.departures = true,
             "--progress" => wanted.progress = true,
             w if w.starts_with('-') => usage(&format!("unknown option '{}'", w)),
             _ => words.push(word),
         }
     }
-    if wanted.script.is_none() && !wanted.rows {
+    if wanted.script.is_none() && !wanted.rows && !wanted.departures {
         if words.len() < 2 {
             usage("SEED and COUNT are wanted");
         }
@@ -116,7 +126,10 @@ fn shown(finding: &Finding) -> String {
 fn main() {
     let wanted = arguments();
     if wanted.rows {
-        rows();
+        table(driver::rows::run(&mut Judge::default()));
+    }
+    if wanted.departures {
+        table(port::departures::run());
     }
     let script = wanted.script.as_ref().map(|path| (path, read_script(path)));
     let mut text = String::new();
@@ -159,9 +172,8 @@ fn replayed(wanted: &Wanted, path: &str, script: &[(usize, Call)]) -> (u64, Opti
     }
 }
 
-/// Document 01's worked values, on the judge.
-fn rows() -> ! {
-    let (bad, lines) = driver::rows::run(&mut Judge::default());
+/// Rows that have been run: how many are wrong, and a line for each.
+fn table((bad, lines): (usize, Vec<String>)) -> ! {
     say(&format!("{}\n{} rows, {} wrong\n", lines.join("\n"), lines.len(), bad));
     exit((bad > 0) as i32)
 }
