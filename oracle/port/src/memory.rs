@@ -156,6 +156,12 @@ impl Memory {
         Sizes { receive: self.receive.order.len(), send: self.send.order.len(), acks: self.acks.len() / 2 }
     }
 
+    /// The bytes of all that is lent, the words of the block among them.
+    pub fn bytes(&self) -> usize {
+        let pool = |p: &Pool| 4 * (p.order.len() + p.records.len()) + p.room.len();
+        4 * (self.words.len() + self.acks.len()) + self.waiting.len() + pool(&self.receive) + pool(&self.send)
+    }
+
     /// The number of that name among the words of a block.
     pub fn word_of(words: &[u32], name: &str) -> u32 {
         WORDS.iter().position(|w| *w == name).map_or(0, |i| words[i])
