@@ -174,7 +174,9 @@ fn replayed(wanted: &Wanted, path: &str, script: &[(usize, Call)]) -> (u64, Opti
 
 /// Rows that have been run: how many are wrong, and a line for each.
 fn table((bad, lines): (usize, Vec<String>)) -> ! {
-    say(&format!("{}\n{} rows, {} wrong\n", lines.join("\n"), lines.len(), bad));
+    let not_yet = lines.iter().filter(|line| line.starts_with("not yet")).count();
+    let rest = if not_yet > 0 { format!(", {} not yet", not_yet) } else { String::new() };
+    say(&format!("{}\n{} rows, {} wrong{}\n", lines.join("\n"), lines.len(), bad, rest));
     exit((bad > 0) as i32)
 }
 
