@@ -1,0 +1,5 @@
+-- `Laws` has what a move and a store do to the held segments' order and places, `Keep` that every event leaves a well-formed receive side
+-- well formed, and `Theorem` demand 3.
+pub mod Laws
+pub mod Keep
+pub mod Theorem
