@@ -1,4 +1,4 @@
--- Every call of the receive side leaves a well-formed receiver well formed, and a push that is taken finds a slot. Assumes nothing.
+-- Every event leaves a well-formed receive side well formed, and a push that is taken finds a slot. Assumes nothing.
 use Prim.Native.Nat.{ℕ, suc, zero, _+_, _-_, _*_, _^_, _%_, _<_, _≤_, max, min}
 use native.Mathlib.Omega.{arith}
 use mathlib.Core.Path.{_≡_, refl, sym, ap, _∙_, subst}
@@ -10,15 +10,7 @@ use borrow.Author.Tests.{ltb-true, ltb-false, not-true}
 use Rattle.serial.specs.Window.{distance, inWindow}
 use Rattle.receiving.specs.Rules.{Segment, numbers, marks, Receiving, ready, insert, isHeld, moved, moveBuf, skipped, reached, taken, stored, push, message, Answer, refused, gives, recvAnswer, given, freed, received, recv, tooLarge, widened, setWindow, fresh, Ordered, WellFormed}
 use Rattle.receiving.specs.History.{Event, eventPush, eventRecv, eventMove, eventWindow, leaves, inUse}
-use Rattle.receiving.proofs.Laws.{Moves, moves-ready, insert-ordered, insert-length, ordered-wider, ordered-length}
-
-pub and-left : (a b : Bool) → (a && b) ≡ true → a ≡ true
-and-left true b e = refl
-and-left false b e = e
-
-pub and-right : (a b : Bool) → (a && b) ≡ true → b ≡ true
-and-right true b e = e
-and-right false b e = cc
+use Rattle.receiving.proofs.Laws.{and-left, and-right, Moves, moves-ready, insert-ordered, insert-length, ordered-wider, ordered-length}
 
 -- a window that passes leaves room for twice itself
 pub small-enough : (slots v : ℕ) → (ltb 0 v && not (tooLarge slots v)) ≡ true → 2 * max v 128 ≤ slots

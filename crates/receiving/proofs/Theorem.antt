@@ -12,8 +12,8 @@ use Rattle.serial.specs.Wrap.{add32}
 use Rattle.serial.specs.Window.{inWindow}
 use Rattle.receiving.specs.Rules.{Segment, numbers, marks, Receiving, ready, insert, isHeld, moved, moveBuf, skipped, reached, taken, stored, push, message, Answer, refused, gives, recvAnswer, given, freed, received, recv, tooLarge, widened, setWindow, fresh, Ordered, WellFormed}
 use Rattle.receiving.specs.History.{Event, eventPush, eventRecv, eventMove, eventWindow, Taken, placed, first, History, takes, hands, leaves, step, runFrom, begun, inUse, none-segment, distanceAt, Sound}
-use Rattle.receiving.proofs.Laws.{Numbered, standing, numbered-append, standing-append, numbered-at, standing-at, ordered-length, ordered-high, ordered-rising, Moves, moves-ready, orElse, orElse-assoc, first-append, insert-first, insert-length}
-use Rattle.receiving.proofs.Keep.{and-left, well-stored, well-freed, well-event, well-room, well-fresh}
+use Rattle.receiving.proofs.Laws.{and-left, Numbered, standing, numbered-append, standing-append, numbered-at, standing-at, ordered-length, ordered-high, ordered-rising, Moves, moves-ready, orElse, orElse-assoc, first-append, insert-first, insert-length}
+use Rattle.receiving.proofs.Keep.{well-stored, well-freed, well-event, well-room, well-fresh}
 
 -- all segments that came, with their places: those of `done` reached the queue, and those of `held` wait
 unfoldable pub layout : List Segment → ℕ → List Segment → List Taken

@@ -7,7 +7,7 @@ ghost use Rattle.serial.specs.Window.{distance};
 ghost use Rattle.lent.specs.Records.{put, numberAt};
 ghost use Rattle.slots.specs.Entries.{total, slotOf, lengthOf};
 ghost use Rattle.slots.specs.Pool.{lists, numbersAt, lengthsAt};
-ghost use Rattle.receiving.specs.Rules.{ready, nearer, rises, joined, Ordered};
+ghost use Rattle.receiving.specs.Rules.{ready, rises, joined, Ordered};
 ghost use Rattle.receiving.specs.Numbers.{payloadsAt, Found, Spans};
 
 // Where a number belongs among the held segments, and whether it is one of them.
@@ -69,7 +69,7 @@ pub fn ready_count(
     i
 }
 
-// How many of the held segments lie no farther than d past the next number awaited, by halves.
+// How many of the held segments lie no farther than d past the next number awaited: all, as where a push comes last, or found by halves.
 fn nearer_count(
     order: &[u32],
     records: &[u32],
@@ -82,8 +82,14 @@ fn nearer_count(
     requires { ⌜ ((i : ℕ) → i < from + count → slotOf (getD (now order) i 0) * 2 + 2 ≤ length (now records)) ⌝ }
     requires { ⌜ Ordered next 0 (2 ^ 32) (numbersAt 2 (lists (now order) (now records) []) 0 from count) ⌝ }
     ensures { λ r. ⌜ r ≤ count ⌝ }
-    ensures { λ r. ⌜ r ≡ nearer next d (numbersAt 2 (lists (now (order .entry)) (now (records .entry)) []) 0 from count) ⌝ }
+    ensures { λ r. ⌜ ((i : ℕ) → i < r → distance next (getD (numbersAt 2 (lists (now (order .entry)) (now (records .entry)) []) 0 from count) i 0) ≤ d) ⌝ }
+    ensures { λ r. ⌜ ((i : ℕ) → r ≤ i → i < count → d < distance next (getD (numbersAt 2 (lists (now (order .entry)) (now (records .entry)) []) 0 from count) i 0)) ⌝ }
 {
+    if count > 0 {
+        if distance_at(order, records, from + (count - 1), next) <= d {
+            return count;
+        }
+    }
     let mut lo = 0;
     let mut hi = count;
     while lo < hi {
