@@ -8,14 +8,14 @@ use mathlib.Core.Path.{_≡_, refl, sym, ap, _∙_}
 use mathlib.Core.Bool.{Bool, true, false, cond, _&&_, _||_}
 use mathlib.Core.List.{List, [], _∷_, _++_, append-assoc, append-nil}
 use lib.ListN.{length, take, drop, getD, length-append, length-drop}
-use lib.Seq.{drop-cons, drop-length, take-suc, take-at, drop-append-add, drop-drop, length-take-le}
+use lib.Seq.{drop-cons, drop-length, take-suc, take-all, take-at, drop-append-add, drop-drop, length-take-le}
 use lib.Dec.{ltb, leb, eqb}
 use borrow.Author.Tests.{lt-ltb, le-ltb, le-leb, lt-leb, eq-eqb, ne-eqb, eqb-true, eqb-false}
 use Rattle.serial.specs.Wrap.{add32}
 use Rattle.serial.specs.Window.{distance}
 use Rattle.lent.specs.Records.{put, loaded, numberAt}
 use Rattle.lent.proofs.Regions.{region-length, region-at}
-use Rattle.lent.proofs.Rows.{part-length}
+use Rattle.lent.proofs.Rows.{part-length, put-length}
 use Rattle.slots.specs.Entries.{total, slotOf, lengthOf}
 use Rattle.slots.specs.Pool.{lists, numbersAt, lengthsAt}
 use Rattle.slots.proofs.Totals.{total-more, total-split}
@@ -31,6 +31,11 @@ module _ (order records : List ℕ) (k from count : ℕ) (fits : from + count �
 
   pub numbers-at : (i : ℕ) → i < count → getD (numbersAt 2 (lists order records []) k from count) i 0 ≡ numberAt 2 records (slotOf (getD order (from + i) 0)) k
   numbers-at i h = region-at (λ (e : ℕ). numberAt 2 records (slotOf e) k) order from count fits i 0 h
+
+-- of a queue, which starts at place 0
+pub front-at : (order records : List ℕ) (k count : ℕ) → count ≤ length order → (i : ℕ) → i < count
+    → getD (numbersAt 2 (lists order records []) k 0 count) i 0 ≡ numberAt 2 records (slotOf (getD order i 0)) k
+front-at order records k count fits i h = let z : 0 + i ≡ i = omega arith in rw z at (numbers-at order records k 0 count (omega arith) i h)
 
 -- ---- `ready_count`: i have moved, and the rest is still to be counted
 
@@ -128,6 +133,21 @@ module _ (next number : ℕ) (held : List ℕ) (j : ℕ) (far : (i : ℕ) → j 
       go true e = sym (held-at number held (j - 1) (omega arith) (eqb-true (getD held (j - 1) 0) number e))
       go false e = sym (not-held number held (λ i h q. other e i h q (decLt i j) (ℕ-discrete i (j - 1))))
 
+-- what `nearer_count` answers of a number's distance d
+module _ (next number d hi count : ℕ) (held : List ℕ) (size : length held ≡ count) (o : Ordered next 0 hi held) (is : d ≡ distance next number)
+    (j : ℕ) (within : j ≤ count) (near : (i : ℕ) → i < j → distance next (getD held i 0) ≤ d) (far : (i : ℕ) → j ≤ i → i < count → d < distance next (getD held i 0)) where
+  farther : (i : ℕ) → j ≤ i → i < length held → distance next number < distance next (getD held i 0)
+  farther i h k = let a = far i h (omega arith) in omega arith
+
+  pub found-at : j ≡ nearer next (distance next number) held
+  found-at = sym (nearer-is next (distance next number) held j (omega arith) (λ i h. let a = near i h in omega arith) (λ h. farther j (omega arith) h))
+
+  pub found-none : j ≡ 0 → false ≡ isHeld number held
+  found-none e = sym (held-none next number held j farther e)
+
+  pub found-before : 0 < j → eqb (getD held (j - 1) 0) number ≡ isHeld number held
+  found-before p = held-before next number held j farther hi o p (omega arith) (let a = near (j - 1) (omega arith) in omega arith)
+
 -- ---- `rising`: those from i on have to lie at lo or farther
 
 module _ (next lo hi : ℕ) (held : List ℕ) (i : ℕ) where
@@ -160,6 +180,10 @@ module _ (queue : List ℕ) (i : ℕ) where
   message-none h = rw (h, drop-length)
 
 -- the lengths of the first i segments
+pub size-none : (l : List ℕ) → total (λ (n : ℕ). n) (take 0 l) ≡ 0
+unfolding total
+size-none l = refl
+
 module _ (order : List ℕ) (count : ℕ) (fits : count ≤ length order) where
   abbrev sizes : List ℕ
   sizes = lengthsAt (lists order [] []) 0 count
@@ -201,3 +225,51 @@ put-put l at x y h =
     let g : drop ((at + length x) + length y) ((take at l ++ x) ++ drop (at + length x) l) ≡ drop ((at + length x) + length y) l =
     rw (← e) (drop-append-add (take at l ++ x) (drop (length (take at l ++ x)) l) (length y) ∙ drop-drop (length y) (length (take at l ++ x)) l) in
     rw (length-append, ← append-assoc (take at l) x, f, g, d, append-assoc, append-assoc)
+
+pub record Copied (before after : List ℕ) (parts : List (List ℕ)) (to i : ℕ) : Type 0 where
+  pub size : to ≡ length (joined (take i parts))
+  pub same : length after ≡ length before
+  pub bytes : after ≡ put before 0 (joined (take i parts))
+
+pub copied-none : (l : List ℕ) (parts : List (List ℕ)) → Copied l l parts 0 0
+unfolding joined put
+copied-none l parts = record { size = refl; same = refl; bytes = refl }
+
+pub copied-turn : (before after last : List ℕ) (parts : List (List ℕ)) (to i : ℕ) → Copied before after parts to i → i < length parts
+    → to + length (getD parts i []) ≤ length before → last ≡ put after to (getD parts i []) → Copied before last parts (to + length (getD parts i [])) (i + 1)
+copied-turn before after last parts to i c h room e =
+    let x = joined (take i parts) in
+    let y = getD parts i [] in
+    let m = joined-more parts i h in
+    let s = c .size in
+    let z : to ≡ 0 + length x = c .size ∙ omega arith in
+    record {
+      size = rw (m, length-append) (omega arith);
+      same = rw e (put-length after to y (rw (c .same) room) ∙ c .same);
+      bytes = e ∙ rw (c .bytes, z, m) (put-put before 0 x y (omega arith));
+    }
+
+module _ (order room : List ℕ) (count : ℕ) (fits : count ≤ length order) where
+  pub payloads-length : length (payloadsAt (lists order [] room) 0 count) ≡ count
+  payloads-length = region-length (λ (e : ℕ). loaded 1476 room (slotOf e) 0 (lengthOf e)) order 0 count (omega arith)
+
+  pub payloads-at : (i : ℕ) → i < count → getD (payloadsAt (lists order [] room) 0 count) i [] ≡ loaded 1476 room (slotOf (getD order i 0)) 0 (lengthOf (getD order i 0))
+  payloads-at i h =
+      let z : 0 + i ≡ i = omega arith in
+      rw z at (region-at (λ (e : ℕ). loaded 1476 room (slotOf e) 0 (lengthOf e)) order 0 count (omega arith) i [] h)
+
+  pub payload-size : (i : ℕ) → i < count → slotOf (getD order i 0) * 1476 + 1476 ≤ length room → lengthOf (getD order i 0) ≤ 1476
+      → length (getD (payloadsAt (lists order [] room) 0 count) i []) ≡ lengthOf (getD order i 0)
+  payload-size i h r k = ap length (payloads-at i h) ∙ part-length room (slotOf (getD order i 0) * 1476 + 0) (lengthOf (getD order i 0)) (omega arith)
+
+  -- the payload of the segment at place i is copied behind those before it
+  pub copied-next : (before after last : List ℕ) (to i slot n : ℕ) → Copied before after (payloadsAt (lists order [] room) 0 count) to i → i < count
+      → slotOf (getD order i 0) * 1476 + 1476 ≤ length room → lengthOf (getD order i 0) ≤ 1476 → slot ≡ slotOf (getD order i 0) → n ≡ lengthOf (getD order i 0)
+      → to + n ≤ length before → last ≡ put after to (loaded 1476 room slot 0 n) → Copied before last (payloadsAt (lists order [] room) 0 count) (to + n) (i + 1)
+  copied-next before after last to i slot n c h r k es en within e =
+      let f : length (getD (payloadsAt (lists order [] room) 0 count) i []) ≡ n = payload-size i h r k ∙ sym en in
+      rw f at (copied-turn before after last (payloadsAt (lists order [] room) 0 count) to i c (rw payloads-length h) (rw f within)
+      (e ∙ rw (es, en) (ap (put after to) (sym (payloads-at i h)))))
+
+pub copied-all : (before after : List ℕ) (parts : List (List ℕ)) (to i : ℕ) → Copied before after parts to i → length parts ≤ i → after ≡ put before 0 (joined parts)
+copied-all before after parts to i c h = rw (take-all i parts h) at (c .bytes)

@@ -1,3 +1,13 @@
+-- `receiving::message_of` meets its contract. i segments are passed, none of them the last. Assumes nothing.
+use native.Mathlib.Omega.{arith}
+use Prim.Native.Nat.{ℕ, _+_, _-_, _*_, _≤_}
+use mathlib.Core.Path.{_≡_, refl, sym, ap, _∙_}
+use mathlib.Core.List.{[]}
+use lib.ListN.{take, drop}
+use Rattle.slots.specs.Entries.{total}
+use Rattle.slots.specs.Pool.{lists, numbersAt, lengthsAt}
+use Rattle.receiving.specs.Rules.{message}
+use Rattle.receiving.proofs.Bridge.{numbers-length, front-at, message-on, message-ends, message-none, size-none, size-more}
 use Rattle.receiving.proofs.message_of.Statement.{statement}
 use Rattle.receiving.proofs.message_of.Tie as tie
 use Rattle.receiving.proofs.message_of.Reads as reads
@@ -6,58 +16,84 @@ use Rattle.receiving.proofs.number_of.Reads as number-of-reads
 use Rattle.slots.proofs.length_of.Reads as length-of-reads
 
 abbrev Inv-loop : tie.InvT-loop
-Inv-loop order records count size₀ i₀ size i = ?
+Inv-loop order records count size₀ i₀ size i =
+    (i ≤ count) × (size ≤ 1476 * i) × (size ≡ total (λ (n : ℕ). n) (take i (lengthsAt (lists order [] []) 0 count)))
+    × (i + message (drop i (numbersAt 2 (lists order records []) 1 0 count)) ≡ message (numbersAt 2 (lists order records []) 1 0 count))
 
 abbrev μ-loop : tie.MeasureT-loop
-μ-loop order records count size₀ i₀ size i = ?
+μ-loop order records count size₀ i₀ size i = count - i
 
--- src/lib.rt:178:5
 loop-holds : tie.Need-loop-holds Inv-loop μ-loop
-loop-holds c = omega arith
+loop-holds c = let a = c .before .before .args in let z = size-none (lengthsAt (lists (a .order .now) [] []) 0 (a .count)) in (omega arith, omega arith, omega arith, omega arith)
 
--- src/lib.rt:179:34
 mul-length-of : tie.Need-mul-length-of Inv-loop μ-loop
 mul-length-of c = omega arith
 
--- src/lib.rt:179:34
 shared-slice-read-length-of : tie.Need-shared-slice-read-length-of Inv-loop μ-loop
 shared-slice-read-length-of c = omega arith
 
--- src/lib.rt:179:17
 length-of-requires : tie.Need-length-of-requires Inv-loop μ-loop
 length-of-requires c κs = omega arith
 
--- src/lib.rt:179:9
 add-size : tie.Need-add-size Inv-loop μ-loop
-add-size c = omega arith
+add-size c =
+    let l = c .before .before .before .loop in
+    let s = c .before .before .before .before .before .before in
+    let a = s .args in
+    let e = c .length-of .ensures in
+    let b = s .pre .1 .1 .1 (l .i) (omega arith) in
+    omega arith
 
--- src/lib.rt:180:12
 number-of-requires : tie.Need-number-of-requires Inv-loop μ-loop
-number-of-requires c κs = omega arith
+number-of-requires c κs =
+    let s = c .before .before .before .before .before .before in
+    (omega arith, (s .pre .1 .1 .0 (c .before .before .before .loop .i) (omega arith), omega arith))
 
--- src/lib.rt:182:27
 add-t11 : tie.Need-add-t11 Inv-loop μ-loop
 add-t11 c = omega arith
 
--- src/lib.rt:181:13
 returns : tie.Need-returns Inv-loop μ-loop
-returns c = omega arith
+returns c =
+    let l = c .before .before .before .before .before .loop in
+    let s = c .before .before .before .before .before .before .before .before in
+    let a = s .args in
+    let e = c .before .before .length-of .ensures in
+    let b = s .pre .1 .1 .1 (l .i) (omega arith) in
+    let m = size-more (a .order .now) (a .count) (s .pre .0) (l .i) (omega arith) in
+    let n = numbers-length (a .order .now) (a .records .now) 1 0 (a .count) (omega arith) in
+    let v = front-at (a .order .now) (a .records .now) 1 (a .count) (s .pre .0) (l .i) (omega arith) in
+    let f = message-ends (numbersAt 2 (lists (a .order .now) (a .records .now) []) 1 0 (a .count)) (l .i) (omega arith) (v ∙ sym (c .before .number-of .ensures) ∙ c .if1 .taken) in
+    let g : l .i + 1 ≡ message (numbersAt 2 (lists (a .order .now) (a .records .now) []) 1 0 (a .count)) = omega arith in
+    record { segments-is = g; size-is = rw (← g) (omega arith) }
 
--- src/lib.rt:186:9
 add-i : tie.Need-add-i Inv-loop μ-loop
 add-i c = omega arith
 
--- src/lib.rt:178:5
 loop-less : tie.Need-loop-less Inv-loop μ-loop
 loop-less c = omega arith
 
--- src/lib.rt:178:5
 loop-again : tie.Need-loop-again Inv-loop μ-loop
-loop-again c = omega arith
+loop-again c =
+    let l = c .before .before .before .before .before .loop in
+    let s = c .before .before .before .before .before .before .before .before in
+    let a = s .args in
+    let e = c .before .before .length-of .ensures in
+    let b = s .pre .1 .1 .1 (l .i) (omega arith) in
+    let m = size-more (a .order .now) (a .count) (s .pre .0) (l .i) (omega arith) in
+    let n = numbers-length (a .order .now) (a .records .now) 1 0 (a .count) (omega arith) in
+    let v = front-at (a .order .now) (a .records .now) 1 (a .count) (s .pre .0) (l .i) (omega arith) in
+    let f = message-on (numbersAt 2 (lists (a .order .now) (a .records .now) []) 1 0 (a .count)) (l .i) (omega arith) (λ q. c .if1 .left (c .before .number-of .ensures ∙ sym v ∙ q)) in
+    (omega arith, omega arith, omega arith, omega arith)
 
--- src/lib.rt:168:1
 returns-2 : tie.Need-returns-2 Inv-loop μ-loop
-returns-2 c = omega arith
+returns-2 c =
+    let l = c .before .loop in
+    let s = c .before .before .before .before in
+    let a = s .args in
+    let n = numbers-length (a .order .now) (a .records .now) 1 0 (a .count) (omega arith) in
+    let f = message-none (numbersAt 2 (lists (a .order .now) (a .records .now) []) 1 0 (a .count)) (l .i) (omega arith) in
+    let g : l .i ≡ message (numbersAt 2 (lists (a .order .now) (a .records .now) []) 1 0 (a .count)) = omega arith in
+    record { segments-is = g; size-is = rw (← g) (l .inv .2) }
 
 pub message-of-spec : {M : Type 1} → statement M
 message-of-spec =

@@ -1,3 +1,12 @@
+-- `receiving::ready_count` meets its contract. i have moved, and the rest is still to be counted. Assumes nothing.
+use native.Mathlib.Omega.{arith}
+use Prim.Native.Nat.{_+_, _-_, _≤_}
+use mathlib.Core.Path.{_≡_, refl, sym, ap, _∙_}
+use mathlib.Core.List.{[]}
+use lib.ListN.{drop}
+use Rattle.slots.specs.Pool.{lists, numbersAt}
+use Rattle.receiving.specs.Rules.{ready}
+use Rattle.receiving.proofs.Bridge.{numbers-length, numbers-at, ready-on, ready-stops, ready-full, ready-empty}
 use Rattle.receiving.proofs.ready_count.Statement.{statement}
 use Rattle.receiving.proofs.ready_count.Tie as tie
 use Rattle.receiving.proofs.ready_count.Reads as reads
@@ -6,50 +15,67 @@ use Rattle.receiving.proofs.number_of.Reads as number-of-reads
 use Rattle.serial.proofs.add.Reads as add-reads
 
 abbrev Inv-loop : tie.InvT-loop
-Inv-loop order records from count next room i₀ awaited₀ i awaited = ?
+Inv-loop order records from count next room i₀ awaited₀ i awaited =
+    (i ≤ count) × (i ≤ room)
+    × (i + ready awaited (room - i) (drop i (numbersAt 2 (lists order records []) 0 from count)) ≡ ready next room (numbersAt 2 (lists order records []) 0 from count))
 
 abbrev μ-loop : tie.MeasureT-loop
-μ-loop order records from count next room i₀ awaited₀ i awaited = ?
+μ-loop order records from count next room i₀ awaited₀ i awaited = count - i
 
--- src/lib.rt:59:5
 loop-holds : tie.Need-loop-holds Inv-loop μ-loop
-loop-holds c = omega arith
+loop-holds c = let e : c .before .before .args .room - 0 ≡ c .before .before .args .room = omega arith in (omega arith, omega arith, rw e (omega arith))
 
--- src/lib.rt:61:13
 returns : tie.Need-returns Inv-loop μ-loop
-returns c = omega arith
+returns c =
+    let l = c .before .before .loop in
+    let s = c .before .before .before .before .before in
+    let a = s .args in
+    let e = ready-full (l .awaited) (a .room) (numbersAt 2 (lists (a .order .now) (a .records .now) []) 0 (a .from) (a .count)) (l .i) (omega arith) in
+    omega arith
 
--- src/lib.rt:63:38
 add-number-of : tie.Need-add-number-of Inv-loop μ-loop
 add-number-of c = omega arith
 
--- src/lib.rt:63:12
 number-of-requires : tie.Need-number-of-requires Inv-loop μ-loop
-number-of-requires c κs = omega arith
+number-of-requires c κs = let s = c .before .before .before .before .before in (omega arith, (s .pre .1 (s .args .from + c .before .before .loop .i) (omega arith), omega arith))
 
--- src/lib.rt:64:13
 returns-2 : tie.Need-returns-2 Inv-loop μ-loop
-returns-2 c = omega arith
+returns-2 c =
+    let l = c .before .before .before .before .loop in
+    let s = c .before .before .before .before .before .before .before in
+    let a = s .args in
+    let n = numbers-length (a .order .now) (a .records .now) 0 (a .from) (a .count) (s .pre .0) in
+    let v = numbers-at (a .order .now) (a .records .now) 0 (a .from) (a .count) (s .pre .0) (l .i) (omega arith) in
+    let e = ready-stops (l .awaited) (a .room) (numbersAt 2 (lists (a .order .now) (a .records .now) []) 0 (a .from) (a .count)) (l .i) (omega arith) (λ q. c .if2 .taken (c .before .number-of .ensures ∙ sym v ∙ q)) in
+    omega arith
 
--- src/lib.rt:66:9
 add-requires : tie.Need-add-requires Inv-loop μ-loop
 add-requires c κs = omega arith
 
--- src/lib.rt:67:9
 add-i : tie.Need-add-i Inv-loop μ-loop
 add-i c = omega arith
 
--- src/lib.rt:59:5
 loop-less : tie.Need-loop-less Inv-loop μ-loop
 loop-less c = omega arith
 
--- src/lib.rt:59:5
 loop-again : tie.Need-loop-again Inv-loop μ-loop
-loop-again c = omega arith
+loop-again c =
+    let l = c .before .before .before .before .before .loop in
+    let s = c .before .before .before .before .before .before .before .before in
+    let a = s .args in
+    let n = numbers-length (a .order .now) (a .records .now) 0 (a .from) (a .count) (s .pre .0) in
+    let v = numbers-at (a .order .now) (a .records .now) 0 (a .from) (a .count) (s .pre .0) (l .i) (omega arith) in
+    let e = ready-on (l .awaited) (a .room) (numbersAt 2 (lists (a .order .now) (a .records .now) []) 0 (a .from) (a .count)) (l .i) (omega arith) (omega arith) (v ∙ sym (c .before .before .number-of .ensures) ∙ c .before .if2 .left) in
+    (omega arith, omega arith, rw (c .add .ensures) (omega arith))
 
--- src/lib.rt:45:1
 returns-3 : tie.Need-returns-3 Inv-loop μ-loop
-returns-3 c = omega arith
+returns-3 c =
+    let l = c .before .loop in
+    let s = c .before .before .before .before in
+    let a = s .args in
+    let n = numbers-length (a .order .now) (a .records .now) 0 (a .from) (a .count) (s .pre .0) in
+    let e = ready-empty (l .awaited) (a .room) (numbersAt 2 (lists (a .order .now) (a .records .now) []) 0 (a .from) (a .count)) (l .i) (omega arith) in
+    omega arith
 
 pub ready-count-spec : {M : Type 1} → statement M
 ready-count-spec =
