@@ -1,15 +1,15 @@
 -- What the loops over the held and the queued segments ask of the rules. Assumes nothing.
-use Prim.Native.Nat.{ℕ, suc, zero, _+_, _-_, _*_, _^_, _<_, _≤_, zero-le, suc-le-suc}
+use Prim.Native.Nat.{ℕ, suc, zero, _+_, _-_, _*_, _<_, _≤_, zero-le, suc-le-suc}
 use native.Mathlib.Omega.{arith}
 use native.Mathlib.Nat.{not-suc-le-zero, le-of-suc-le-suc}
 use native.Mathlib.Numerals.{add-one}
 use native.Mathlib.Decide.{ℕ-discrete, decLt}
 use mathlib.Core.Path.{_≡_, refl, sym, ap, _∙_}
-use mathlib.Core.Bool.{Bool, true, false, cond, _&&_, _||_}
+use mathlib.Core.Bool.{Bool, true, false, _||_}
 use mathlib.Core.List.{List, [], _∷_, _++_, append-assoc, append-nil}
-use lib.ListN.{length, take, drop, getD, length-append, length-drop}
+use lib.ListN.{length, take, drop, getD, length-append}
 use lib.Seq.{drop-cons, drop-length, take-suc, take-all, take-at, drop-append-add, drop-drop, length-take-le}
-use lib.Dec.{ltb, leb, eqb}
+use lib.Dec.{leb, eqb}
 use borrow.Author.Tests.{lt-ltb, le-ltb, le-leb, lt-leb, eq-eqb, ne-eqb, eqb-true, eqb-false}
 use Rattle.serial.specs.Wrap.{add32}
 use Rattle.serial.specs.Window.{distance}
@@ -21,7 +21,7 @@ use Rattle.slots.specs.Pool.{lists, numbersAt, lengthsAt}
 use Rattle.slots.proofs.Totals.{total-more, total-split}
 use Rattle.receiving.specs.Rules.{ready, nearer, isHeld, message, joined, rises, Ordered}
 use Rattle.receiving.specs.Numbers.{payloadsAt}
-use Rattle.receiving.proofs.Laws.{ordered-rising, distance-inj}
+use Rattle.receiving.proofs.Laws.{ordered-rising}
 
 -- ---- the lists that the loops read, by index
 

@@ -1,14 +1,14 @@
 -- Every event leaves a well-formed receive side well formed, and a push that is taken finds a slot. Assumes nothing.
-use Prim.Native.Nat.{ℕ, suc, zero, _+_, _-_, _*_, _^_, _%_, _<_, _≤_, max, min}
+use Prim.Native.Nat.{ℕ, _-_, _*_, _^_, _<_, _≤_, max}
 use native.Mathlib.Omega.{arith}
-use mathlib.Core.Path.{_≡_, refl, sym, ap, _∙_, subst}
-use mathlib.Core.Bool.{Bool, true, false, cond, not, _&&_, _||_}
-use mathlib.Core.List.{List, [], _∷_, _++_}
-use lib.ListN.{length, take, drop, length-append, length-take, length-drop, length-map}
-use lib.Dec.{ltb, leb, eqb}
+use mathlib.Core.Path.{_≡_, refl}
+use mathlib.Core.Bool.{Bool, true, false, cond, not, _&&_}
+use mathlib.Core.List.{[]}
+use lib.ListN.{length, length-append, length-take, length-drop, length-map}
+use lib.Dec.{ltb}
 use borrow.Author.Tests.{ltb-true, ltb-false, not-true}
 use Rattle.serial.specs.Window.{distance, inWindow}
-use Rattle.receiving.specs.Rules.{Segment, numbers, marks, Receiving, ready, insert, isHeld, moved, moveBuf, skipped, reached, taken, stored, push, message, Answer, refused, gives, recvAnswer, given, freed, received, recv, tooLarge, widened, setWindow, fresh, Ordered, WellFormed}
+use Rattle.receiving.specs.Rules.{Segment, numbers, marks, Receiving, ready, insert, isHeld, moved, moveBuf, skipped, reached, taken, stored, push, message, Answer, refused, gives, recvAnswer, freed, received, recv, tooLarge, widened, setWindow, fresh, Ordered, WellFormed}
 use Rattle.receiving.specs.History.{Event, eventPush, eventRecv, eventMove, eventWindow, leaves, inUse}
 use Rattle.receiving.proofs.Laws.{and-left, and-right, Moves, moves-ready, insert-ordered, insert-length, ordered-wider, ordered-length}
 

@@ -2,8 +2,8 @@
 use Prim.Native.Nat.{ℕ, suc, zero, _+_, _^_, _%_, _<_, _≤_, zero-le, suc-le-suc}
 use native.Mathlib.Omega.{arith}
 use native.Mathlib.Nat.{not-suc-le-zero, le-of-suc-le-suc}
-use mathlib.Core.Path.{_≡_, refl, sym, ap, _∙_, subst}
-use mathlib.Core.Bool.{Bool, true, false, cond, not, _&&_, _||_}
+use mathlib.Core.Path.{_≡_, refl, sym, ap, subst}
+use mathlib.Core.Bool.{Bool, true, false, cond, _&&_, _||_}
 use mathlib.Core.Option.{Option, none, some}
 use mathlib.Core.List.{List, [], _∷_, _++_}
 use lib.ListN.{length, take, drop, getD}
@@ -125,14 +125,14 @@ rises-ordered next lo hi (n ∷ l) small e = (
 -- ---- held segments move: what is awaited goes on, and every segment keeps its place
 
 module _ (n hi : ℕ) (under : n < 2 ^ 32) where
-  ordered-step : (lo : ℕ) (l : List ℕ) → Ordered n (suc lo) hi l → Ordered (add32 n 1) lo hi l
+  pub ordered-step : (lo : ℕ) (l : List ℕ) → Ordered n (suc lo) hi l → Ordered (add32 n 1) lo hi l
   ordered-step lo [] o = omega arith
   ordered-step lo (m ∷ l) o =
       let e = distance-step n m under (omega arith) in
       let f : distance n m ≡ suc (distance (add32 n 1) m) = omega arith in
       (omega arith, o .1, ordered-step (suc (distance (add32 n 1) m)) l (subst (λ (d : ℕ). Ordered n (suc d) hi l) f (o .2)))
 
-  placed-step : (p lo : ℕ) (l : List Segment) → Ordered n (suc lo) hi (numbers l) → placed (suc p) (add32 n 1) l ≡ placed p n l
+  pub placed-step : (p lo : ℕ) (l : List Segment) → Ordered n (suc lo) hi (numbers l) → placed (suc p) (add32 n 1) l ≡ placed p n l
   unfolding placed
   placed-step p lo [] o = refl
   placed-step p lo (s ∷ l) o =

@@ -1,18 +1,16 @@
 -- Demand 3: every sequence of events from a fresh receive side is sound. Assumes nothing.
-use Prim.Native.Nat.{ℕ, suc, zero, _+_, _-_, _*_, _^_, _%_, _<_, _≤_, max, min}
+use Prim.Native.Nat.{ℕ, suc, _+_, _-_, _^_, _%_, _<_, _≤_, max}
 use native.Mathlib.Omega.{arith}
 use native.Mathlib.Nat.{zero-add}
-use mathlib.Core.Path.{_≡_, refl, sym, ap, _∙_, subst}
-use mathlib.Core.Bool.{Bool, true, false, cond, not, _&&_, _||_}
-use mathlib.Core.Option.{Option, none, some}
+use mathlib.Core.Path.{_≡_, refl, ap, _∙_}
+use mathlib.Core.Bool.{Bool, true, false, cond, not, _&&_}
 use mathlib.Core.List.{List, [], _∷_, _++_, append-assoc, append-nil}
-use lib.ListN.{length, take, drop, getD, length-append, length-take, length-drop, length-map, List·getD-append, take-append-drop}
-use lib.Dec.{ltb, leb, eqb}
-use Rattle.serial.specs.Wrap.{add32}
+use lib.ListN.{length, take, drop, length-append, length-take, length-drop, length-map, List·getD-append, take-append-drop}
+use lib.Dec.{ltb}
 use Rattle.serial.specs.Window.{inWindow}
-use Rattle.receiving.specs.Rules.{Segment, numbers, marks, Receiving, ready, insert, isHeld, moved, moveBuf, skipped, reached, taken, stored, push, message, Answer, refused, gives, recvAnswer, given, freed, received, recv, tooLarge, widened, setWindow, fresh, Ordered, WellFormed}
+use Rattle.receiving.specs.Rules.{Segment, numbers, marks, Receiving, ready, insert, isHeld, moved, moveBuf, skipped, reached, taken, stored, push, message, Answer, refused, gives, recvAnswer, given, freed, received, recv, tooLarge, widened, setWindow, fresh, WellFormed}
 use Rattle.receiving.specs.History.{Event, eventPush, eventRecv, eventMove, eventWindow, Taken, placed, first, History, takes, hands, leaves, step, runFrom, begun, inUse, none-segment, distanceAt, Sound}
-use Rattle.receiving.proofs.Laws.{and-left, Numbered, standing, numbered-append, standing-append, numbered-at, standing-at, ordered-length, ordered-high, ordered-rising, Moves, moves-ready, orElse, orElse-assoc, first-append, insert-first, insert-length}
+use Rattle.receiving.proofs.Laws.{and-left, Numbered, standing, numbered-append, standing-append, numbered-at, standing-at, ordered-length, ordered-high, ordered-rising, Moves, moves-ready, orElse-assoc, first-append, insert-first, insert-length}
 use Rattle.receiving.proofs.Keep.{well-stored, well-freed, well-event, well-room, well-fresh}
 
 -- all segments that came, with their places: those of `done` reached the queue, and those of `held` wait
@@ -119,7 +117,7 @@ module _ (slots : ℕ) (r : Receiving) (pushes : List Taken) (handed : List Segm
   told-event eventMove = rw (append-nil pushes, append-nil handed) (told-moved slots r pushes handed w t)
   told-event (eventWindow v) = rw (append-nil pushes, append-nil handed) (told-window slots r pushes handed w t v)
 
--- the block's largest window is the largest that was in force
+-- the largest window kept is the largest that was in force
 module _ (slots : ℕ) (r : Receiving) (w : WellFormed slots r) where
   peak-event : (c : Event) → leaves slots c r .largest ≡ max (r .largest) (leaves slots c r .window)
   unfolding leaves moveBuf moved recv received freed push stored setWindow widened
@@ -152,6 +150,7 @@ length-placed p next [] = refl
 length-placed p next (s ∷ l) = ap suc (length-placed p next l)
 
 module _ (slots : ℕ) where
+  -- what every event keeps, so that a history of the block's calls can take it step by step
   pub record Inv (h : History) : Type 0 where
     pub well : WellFormed slots (h .now)
     pub told : Told (h .now) (h .pushes) (h .handed)

@@ -1,5 +1,5 @@
 -- The rules at work: 01's starred rows on a push, messages by their marks, the window setter, and a history that is computed. Assumes nothing.
-use Prim.Native.Nat.{ℕ, _^_, _<_}
+use Prim.Native.Nat.{ℕ, _<_}
 use mathlib.Core.Path.{_≡_, refl}
 use mathlib.Core.Bool.{Bool, true, false}
 use mathlib.Core.List.{List, [], _∷_}
@@ -7,8 +7,8 @@ use lib.Dec.{lit<}
 use Rattle.serial.specs.Window.{distance, acknowledged}
 use Rattle.lent.specs.Order.{inserted}
 use Rattle.slots.specs.Entries.{total}
-use Rattle.receiving.specs.Rules.{Segment, Receiving, ready, moved, moveBuf, skipped, listed, isHeld, reached, taken, nearer, insert, stored, push, message, Answer, refused, gives, peeked, peek, unlessLonger, recvAnswer, given, freed, received, recv, tells, tooLarge, widened, setWindow, fresh, rises}
-use Rattle.receiving.specs.History.{Event, eventPush, eventRecv, eventMove, eventWindow, Taken, placed, takes, hands, leaves, step, runFrom, begun, first}
+use Rattle.receiving.specs.Rules.{Segment, Receiving, ready, moved, moveBuf, skipped, listed, isHeld, reached, taken, nearer, insert, stored, push, message, refused, gives, peeked, peek, unlessLonger, recvAnswer, given, freed, received, recv, tells, tooLarge, widened, setWindow, fresh, rises}
+use Rattle.receiving.specs.History.{Event, eventPush, eventRecv, eventMove, eventWindow, placed, takes, hands, leaves, step, runFrom, begun}
 
 at : ℕ → Receiving
 at n = record { next = n; window = 128; largest = 128; queue = []; held = [] }

@@ -1,11 +1,11 @@
 -- What the receive side does over any sequence of calls (demand 3): the events of the receive side, what each does, and the record `Sound` of
 -- all that holds afterwards. Assumes nothing.
-use Prim.Native.Nat.{ℕ, suc, zero, _+_, _-_, _*_, _^_, _%_, _<_, _≤_, max}
+use Prim.Native.Nat.{ℕ, _+_, _-_, _*_, _^_, _%_, _<_, _≤_, max}
 use mathlib.Core.Path.{_≡_}
-use mathlib.Core.Bool.{Bool, true, false, cond}
+use mathlib.Core.Bool.{Bool, true, cond}
 use mathlib.Core.Option.{Option, none, some}
 use mathlib.Core.List.{List, [], _∷_, _++_}
-use lib.ListN.{length, take, drop, getD}
+use lib.ListN.{length, take, getD}
 use lib.Dec.{eqb}
 use Rattle.serial.specs.Window.{distance}
 use Rattle.receiving.specs.Rules.{Segment, numbers, Receiving, moveBuf, taken, push, recvAnswer, given, recv, setWindow, fresh}

@@ -1,7 +1,7 @@
 -- The receive side's rules over lists of segments: 01's Push, `move_buf`, recv and peeksize, the window setter, and refusals 5, 6, 7 and 14.
 -- Every decision is a function over lists of numbers, so that a loop's contract names only order and numbers. Assumes nothing.
 use Prim.Native.Nat.{ℕ, suc, zero, _+_, _-_, _*_, _^_, _≤_, _<_, max}
-use mathlib.Core.Bool.{Bool, true, false, cond, not, _&&_, _||_}
+use mathlib.Core.Bool.{Bool, false, cond, not, _&&_, _||_}
 use mathlib.Core.List.{List, [], _∷_, _++_, map}
 use lib.ListN.{length, take, drop}
 use lib.Dec.{ltb, leb, eqb}

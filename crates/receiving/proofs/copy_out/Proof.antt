@@ -1,21 +1,15 @@
 -- `receiving::copy_out` meets its contract. The payloads of the first i segments stand end to end, as many bytes as `to` says. Assumes nothing.
 use native.Mathlib.Omega.{arith}
 use Prim.Native.Nat.{ℕ, _+_, _-_, _≤_}
-use mathlib.Core.Path.{_≡_, refl, sym, ap, _∙_}
+use mathlib.Core.Path.{_≡_, sym}
 use mathlib.Core.List.{[]}
-use lib.ListN.{length, take}
-use Rattle.lent.specs.Records.{put}
+use lib.ListN.{take}
 use Rattle.slots.specs.Entries.{total}
 use Rattle.slots.specs.Pool.{lists, lengthsAt}
 use Rattle.receiving.specs.Numbers.{payloadsAt}
 use Rattle.receiving.proofs.Bridge.{size-none, size-more, size-within, payloads-length, Copied, copied-none, copied-next, copied-all}
 use Rattle.receiving.proofs.copy_out.Statement.{statement}
 use Rattle.receiving.proofs.copy_out.Tie as tie
-use Rattle.receiving.proofs.copy_out.Reads as reads
-use Rattle.receiving.proofs.copy_out.Lts as lts
-use Rattle.lent.proofs.get_payload.Reads as get-payload-reads
-use Rattle.slots.proofs.length_of.Reads as length-of-reads
-use Rattle.slots.proofs.slot_of.Reads as slot-of-reads
 
 abbrev Inv-loop : tie.InvT-loop
 Inv-loop order room count out₀ to₀ i₀ out to i =

@@ -2,10 +2,6 @@
 use borrow.Author.Needs.{needs}
 use Rattle.receiving.proofs.distance_at.Statement.{statement}
 use Rattle.receiving.proofs.distance_at.Tie as tie
-use Rattle.receiving.proofs.distance_at.Reads as reads
-use Rattle.receiving.proofs.distance_at.Lts as lts
-use Rattle.receiving.proofs.number_of.Reads as number-of-reads
-use Rattle.serial.proofs.distance_of.Reads as distance-of-reads
 
 number-of-requires : tie.Need-number-of-requires
 number-of-requires c κs = search needs

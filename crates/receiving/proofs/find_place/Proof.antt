@@ -2,18 +2,12 @@
 use borrow.Author.Needs.{needs}
 use native.Mathlib.Omega.{arith}
 use Prim.Native.Nat.{_+_, _-_, _^_}
-use mathlib.Core.Path.{_≡_, refl, sym, ap, _∙_}
+use mathlib.Core.Path.{sym, _∙_}
 use mathlib.Core.List.{[]}
-use lib.Dec.{eqb}
 use Rattle.slots.specs.Pool.{lists, numbersAt}
 use Rattle.receiving.proofs.Bridge.{numbers-length, numbers-at, found-at, found-none, found-before}
 use Rattle.receiving.proofs.find_place.Statement.{statement}
 use Rattle.receiving.proofs.find_place.Tie as tie
-use Rattle.receiving.proofs.find_place.Reads as reads
-use Rattle.receiving.proofs.find_place.Lts as lts
-use Rattle.receiving.proofs.nearer_count.Reads as nearer-count-reads
-use Rattle.receiving.proofs.number_of.Reads as number-of-reads
-use Rattle.serial.proofs.distance_of.Reads as distance-of-reads
 
 distance-of-requires : tie.Need-distance-of-requires
 distance-of-requires c κs = search needs

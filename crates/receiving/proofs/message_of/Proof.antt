@@ -1,7 +1,7 @@
 -- `receiving::message_of` meets its contract. i segments are passed, none of them the last. Assumes nothing.
 use native.Mathlib.Omega.{arith}
 use Prim.Native.Nat.{ℕ, _+_, _-_, _*_, _≤_}
-use mathlib.Core.Path.{_≡_, refl, sym, ap, _∙_}
+use mathlib.Core.Path.{_≡_, sym, _∙_}
 use mathlib.Core.List.{[]}
 use lib.ListN.{take, drop}
 use Rattle.slots.specs.Entries.{total}
@@ -10,10 +10,6 @@ use Rattle.receiving.specs.Rules.{message}
 use Rattle.receiving.proofs.Bridge.{numbers-length, front-at, message-on, message-ends, message-none, size-none, size-more}
 use Rattle.receiving.proofs.message_of.Statement.{statement}
 use Rattle.receiving.proofs.message_of.Tie as tie
-use Rattle.receiving.proofs.message_of.Reads as reads
-use Rattle.receiving.proofs.message_of.Lts as lts
-use Rattle.receiving.proofs.number_of.Reads as number-of-reads
-use Rattle.slots.proofs.length_of.Reads as length-of-reads
 
 abbrev Inv-loop : tie.InvT-loop
 Inv-loop order records count size₀ i₀ size i =

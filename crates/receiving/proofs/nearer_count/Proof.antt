@@ -1,7 +1,7 @@
 -- `receiving::nearer_count` meets its contract. Those before lo lie no farther than d, and those from hi on farther. Assumes nothing.
 use native.Mathlib.Omega.{arith}
 use Prim.Native.Nat.{ℕ, _+_, _-_, _/_, _<_, _≤_, _^_}
-use mathlib.Core.Path.{_≡_, refl, sym, ap, _∙_}
+use mathlib.Core.Path.{_≡_}
 use mathlib.Core.List.{[]}
 use lib.ListN.{getD}
 use Rattle.serial.specs.Window.{distance}
@@ -9,9 +9,6 @@ use Rattle.slots.specs.Pool.{lists, numbersAt}
 use Rattle.receiving.proofs.Bridge.{numbers-length, numbers-at, near-before, far-behind}
 use Rattle.receiving.proofs.nearer_count.Statement.{statement}
 use Rattle.receiving.proofs.nearer_count.Tie as tie
-use Rattle.receiving.proofs.nearer_count.Reads as reads
-use Rattle.receiving.proofs.nearer_count.Lts as lts
-use Rattle.receiving.proofs.distance_at.Reads as distance-at-reads
 
 abbrev Inv-loop : tie.InvT-loop
 Inv-loop order records from count next d lo₀ hi₀ lo hi =

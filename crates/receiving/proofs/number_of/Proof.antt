@@ -2,10 +2,6 @@
 use borrow.Author.Needs.{needs}
 use Rattle.receiving.proofs.number_of.Statement.{statement}
 use Rattle.receiving.proofs.number_of.Tie as tie
-use Rattle.receiving.proofs.number_of.Reads as reads
-use Rattle.receiving.proofs.number_of.Lts as lts
-use Rattle.lent.proofs.number_at.Reads as number-at-reads
-use Rattle.slots.proofs.slot_of.Reads as slot-of-reads
 
 mul-slot-of : tie.Need-mul-slot-of
 mul-slot-of c = search needs

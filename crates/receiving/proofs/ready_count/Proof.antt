@@ -1,7 +1,7 @@
 -- `receiving::ready_count` meets its contract. i have moved, and the rest is still to be counted. Assumes nothing.
 use native.Mathlib.Omega.{arith}
 use Prim.Native.Nat.{_+_, _-_, _≤_}
-use mathlib.Core.Path.{_≡_, refl, sym, ap, _∙_}
+use mathlib.Core.Path.{_≡_, sym, _∙_}
 use mathlib.Core.List.{[]}
 use lib.ListN.{drop}
 use Rattle.slots.specs.Pool.{lists, numbersAt}
@@ -9,10 +9,6 @@ use Rattle.receiving.specs.Rules.{ready}
 use Rattle.receiving.proofs.Bridge.{numbers-length, numbers-at, ready-on, ready-stops, ready-full, ready-empty}
 use Rattle.receiving.proofs.ready_count.Statement.{statement}
 use Rattle.receiving.proofs.ready_count.Tie as tie
-use Rattle.receiving.proofs.ready_count.Reads as reads
-use Rattle.receiving.proofs.ready_count.Lts as lts
-use Rattle.receiving.proofs.number_of.Reads as number-of-reads
-use Rattle.serial.proofs.add.Reads as add-reads
 
 abbrev Inv-loop : tie.InvT-loop
 Inv-loop order records from count next room i₀ awaited₀ i awaited =

@@ -1,7 +1,7 @@
 -- `receiving::rising` meets its contract. Those from i on have to lie at `low` or farther. Assumes nothing.
 use native.Mathlib.Omega.{arith}
 use Prim.Native.Nat.{_+_, _-_, _≤_, _^_}
-use mathlib.Core.Path.{_≡_, refl, sym, ap, _∙_}
+use mathlib.Core.Path.{_≡_, refl, sym, _∙_}
 use mathlib.Core.List.{[]}
 use lib.ListN.{drop}
 use Rattle.slots.specs.Pool.{lists, numbersAt}
@@ -9,9 +9,6 @@ use Rattle.receiving.specs.Rules.{rises}
 use Rattle.receiving.proofs.Bridge.{numbers-length, numbers-at, rises-on, rises-stops, rises-ends}
 use Rattle.receiving.proofs.rising.Statement.{statement}
 use Rattle.receiving.proofs.rising.Tie as tie
-use Rattle.receiving.proofs.rising.Reads as reads
-use Rattle.receiving.proofs.rising.Lts as lts
-use Rattle.receiving.proofs.distance_at.Reads as distance-at-reads
 
 abbrev Inv-loop : tie.InvT-loop
 Inv-loop order records from count next largest low₀ i₀ low i =
