@@ -36,6 +36,56 @@ void kcp_measured(uint32_t e[4], uint32_t rtt, uint32_t interval);
 uint32_t kcp_pool_test(const uint32_t *order, size_t slots, const uint32_t *records, size_t numbers, const uint8_t *room,
                        size_t bytes, size_t width, size_t n);
 
+/* A control block is forty words, in this order, which the host keeps; it may read and copy them, and needs no getter for them.
+   A flag is 0 or 1; the windows, ssthresh and the largest window have 16 bits. The functions below refuse words that are no block
+   by 15, which leaves all as it was. */
+enum {
+    KCP_CONV, KCP_MTU, KCP_MSS, KCP_DEAD, KCP_SND_UNA, KCP_SND_NXT, KCP_RCV_NXT, KCP_SSTHRESH, KCP_RX_RTTVAL, KCP_RX_SRTT,
+    KCP_RX_RTO, KCP_RX_MINRTO, KCP_SND_WND, KCP_RCV_WND, KCP_RMT_WND, KCP_CWND, KCP_PROBE, KCP_CURRENT, KCP_INTERVAL,
+    KCP_TS_FLUSH, KCP_XMIT, KCP_NODELAY, KCP_UPDATED, KCP_TS_PROBE, KCP_PROBE_WAIT, KCP_DEAD_LINK, KCP_INCR_LOW, KCP_INCR_HIGH,
+    KCP_FASTRESEND, KCP_FASTLIMIT, KCP_NOCWND, KCP_STREAM, KCP_INPUT_CONV, KCP_LARGEST, KCP_QUEUED, KCP_HELD, KCP_FLYING,
+    KCP_WAITING_TO_FLY, KCP_ACKS, KCP_WAITING, KCP_WORDS
+};
+
+/* A fresh block, that keeps messages apart, or that carries a stream of bytes: 0, or 15 where there are not KCP_WORDS words or a
+   size is outside the limits. The receive pool is an order of 256 to 1,024 slots, records of 2 numbers and 1,476 bytes for each;
+   the send pool an order of 128 to 1,024 slots, records of 8 numbers and 1,476 bytes for each; then acks of 2 numbers for each of
+   128 to 4,096 pairs, and 1,500 bytes for what waits. What they hold is no fault, and stays. */
+uint32_t kcp_new(uint32_t *words, size_t count, uint32_t conv, const uint32_t *rcv_order, size_t rcv_slots,
+                 const uint32_t *rcv_records, size_t rcv_numbers, const uint8_t *rcv_room, size_t rcv_bytes,
+                 const uint32_t *snd_order, size_t snd_slots, const uint32_t *snd_records, size_t snd_numbers,
+                 const uint8_t *snd_room, size_t snd_bytes, const uint32_t *acks, size_t acks_numbers, const uint8_t *waiting,
+                 size_t waiting_bytes);
+uint32_t kcp_new_stream(uint32_t *words, size_t count, uint32_t conv, const uint32_t *rcv_order, size_t rcv_slots,
+                        const uint32_t *rcv_records, size_t rcv_numbers, const uint8_t *rcv_room, size_t rcv_bytes,
+                        const uint32_t *snd_order, size_t snd_slots, const uint32_t *snd_records, size_t snd_numbers,
+                        const uint8_t *snd_room, size_t snd_bytes, const uint32_t *acks, size_t acks_numbers,
+                        const uint8_t *waiting, size_t waiting_bytes);
+
+/* mtu, and mss = mtu - 24: 0, 10 (InvalidMtu) under 50 or over 1,500, which leaves all as it was, or 15 */
+uint32_t kcp_set_mtu(uint32_t *words, size_t count, size_t mtu);
+
+/* the interval, raised to 10 and cut to 5,000; the next flush stays: 0, or 15 */
+uint32_t kcp_set_interval(uint32_t *words, size_t count, uint32_t interval);
+
+/* nodelay, with rx_minrto 30 or else 100; the interval, from 10 to 5,000; fastresend unless it is negative; nocwnd: 0, or 15 */
+uint32_t kcp_set_nodelay(uint32_t *words, size_t count, bool nodelay, int32_t interval, int32_t resend, bool nc);
+
+/* rx_minrto; rx_rto stays: 0, or 15 */
+uint32_t kcp_set_rx_minrto(uint32_t *words, size_t count, uint32_t rto);
+
+/* fastresend, how many acks of later segments have a segment resent, 0 for never: 0, or 15 */
+uint32_t kcp_set_fast_resend(uint32_t *words, size_t count, uint32_t fr);
+
+/* dead_link, after how many transmissions of one segment the link is dead: 0, or 15 */
+uint32_t kcp_set_maximum_resend_times(uint32_t *words, size_t count, uint32_t dead_link);
+
+/* the next input's conv is adopted: 0, or 15 */
+uint32_t kcp_input_conv(uint32_t *words, size_t count);
+
+/* the block's conv, while kcp_set_conv sets that of a header: 0, or 15 */
+uint32_t kcp_set_block_conv(uint32_t *words, size_t count, uint32_t conv);
+
 /* Aids to measure a copy into a slot of a room and out of it, which will go: whether the copy fitted and was made. One that does
    not fit leaves all as it was. */
 bool kcp_payload_put(uint8_t *room, size_t bytes, size_t slot, const uint8_t *src, size_t len);

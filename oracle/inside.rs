@@ -150,6 +150,34 @@ pub mod inside {
         k.update_ack(rtt)
     }
 
+    /// What input does with a push, from its number tests on: una, wnd and the conv have been seen to.
+    pub fn push_of<O>(k: &mut Kcp<O>, sn: u32, frg: u8, ts: u32, payload: &[u8]) {
+        let mut buf = Cursor::new(payload);
+        let len = payload.len();
+        if timediff(sn, k.rcv_nxt + k.rcv_wnd as u32) < 0 {
+            k.ack_push(sn, ts);
+            if timediff(sn, k.rcv_nxt) >= 0 {
+                let mut sbuf = BytesMut::with_capacity(len);
+                unsafe {
+                    sbuf.set_len(len);
+                }
+                buf.read_exact(&mut sbuf).unwrap();
+                let mut segment = KcpSegment::new_with_data(sbuf);
+                segment.conv = k.conv;
+                segment.cmd = KCP_CMD_PUSH;
+                segment.frg = frg;
+                segment.ts = ts;
+                segment.sn = sn;
+                k.parse_data(segment);
+            }
+        }
+    }
+
+    /// Empties the ack list, as a flush does.
+    pub fn forget_acks<O>(k: &mut Kcp<O>) {
+        k.acklist.clear();
+    }
+
     /// A segment as it is written on the wire.
     pub fn encode_of(s: &Segment) -> Vec<u8> {
         let mut out = BytesMut::new();

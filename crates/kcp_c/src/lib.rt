@@ -15,6 +15,8 @@ use wire::Header;
 use wire::Number;
 use wire::Put;
 
+pub mod calls; // the calls over a block's words
+
 // timediff(a, b).
 #[no_mangle]
 pub extern "C" fn kcp_timediff(a: u32, b: u32) -> i32

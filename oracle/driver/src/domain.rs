@@ -20,6 +20,10 @@ pub fn leaves(call: &Call, s: &State, sizes: Sizes) -> Option<&'static str> {
             }
             None
         }
+        Call::Push(_, _, _, fill) if fill.len > 1476 => Some("a payload over 1,476 bytes"),
+        Call::Push(sn, ..) if acknowledged(*sn, s) && s.acklist.len() >= sizes.acks => {
+            Some("a push that the ack list has no room for")
+        }
         Call::Send(fill) if !send_fits(s, fill.len, sizes.send) => Some("a send that finds no free slots"),
         Call::SetWndsize(_, rcv) if *rcv > 0 && 2 * (*rcv).max(128) as usize > sizes.receive => {
             Some("a receive window over half of the slots")
@@ -35,6 +39,13 @@ pub fn leaves(call: &Call, s: &State, sizes: Sizes) -> Option<&'static str> {
 
 fn lendable(s: Sizes) -> bool {
     (256..=1024).contains(&s.receive) && (128..=1024).contains(&s.send) && (128..=4096).contains(&s.acks)
+}
+
+/// Whether a push with this number is acknowledged.
+fn acknowledged(sn: u32, s: &State) -> bool {
+    let d = sn.wrapping_sub(s.rcv_nxt);
+    let wnd = s.rcv_wnd as u32;
+    d < wnd || d >= (1 << 31) + wnd
 }
 
 /// Whether a push of the datagram would be acknowledged with the list full. It walks as input does; since a push can move

@@ -41,11 +41,15 @@ pub enum Profile {
     Link,
     /// Lists and pools filled to the brim: acks that are not flushed, segments that are not acked, messages that are not read.
     Full,
+    /// Pushes as a call of their own, in and out of order, again, old and beyond the window; recv, peeksize and move_buf among them.
+    Pushes,
+    /// Long stretches of such pushes: queues and held segments over every window, which is raised and lowered, and read empty again.
+    Queues,
     /// The functions that take numbers and bytes alone.
     Leaves,
 }
 
-pub const PROFILES: [(Profile, &str); 14] = [
+pub const PROFILES: [(Profile, &str); 16] = [
     (Profile::Mixed, "mixed"),
     (Profile::Windows, "windows"),
     (Profile::Fragments, "fragments"),
@@ -59,6 +63,8 @@ pub const PROFILES: [(Profile, &str); 14] = [
     (Profile::Growth, "growth"),
     (Profile::Link, "link"),
     (Profile::Full, "full"),
+    (Profile::Pushes, "pushes"),
+    (Profile::Queues, "queues"),
     (Profile::Leaves, "leaves"),
 ];
 
@@ -89,7 +95,11 @@ impl Generator {
             None if leaves => Profile::Leaves,
             None => PROFILES[(sequence % PROFILES.len() as u64) as usize].0,
         };
-        let left = if random.once_in(4) { 400 } else { 20 + random.below(120) };
+        let mut left = if random.once_in(4) { 400 } else { 20 + random.below(120) };
+        // a stretch is many calls
+        if profile == Profile::Queues {
+            left /= 4;
+        }
         let sizes = Sizes {
             receive: random.pick(&[256, 512, 1024, 1024]),
             send: random.pick(&[128, 256, 1024]),
@@ -115,7 +125,11 @@ impl Generator {
         }
         let r = &mut self.random;
         let edge = |r: &mut Random| r.weighted(&[(0, 3), (r.clone().near(0), 1), (r.clone().near(1 << 31), 1), (0u32.wrapping_sub(1 + r.clone().below(60) as u32), 3), (r.clone().word(), 1)]);
-        let (rcv, snd) = (edge(r), edge(r));
+        let (mut rcv, snd) = (edge(r), edge(r));
+        // the edge may lie in the middle of a long queue
+        if self.profile == Profile::Queues && r.once_in(2) {
+            rcv = rcv.wrapping_sub(r.below(600) as u32);
+        }
         let conv = r.pick(&[1, 0, 0x1122_3344, u32::MAX]);
         let stream = r.once_in(4);
         self.clock = r.weighted(&[(0, 3), (r.clone().below(1000) as u32, 3), (r.clone().near(1 << 31), 1), (0u32.wrapping_sub(r.clone().below(400) as u32), 2), (r.clone().word(), 1)]);
@@ -139,11 +153,18 @@ impl Generator {
 
     /// The next call, for a block in this state; `None` ends the sequence.
     pub fn next(&mut self, s: &State) -> Option<Call> {
-        if let Some(call) = self.pending.pop_front() {
-            if let Call::Update(t) = call {
-                self.clock = t;
+        while let Some(call) = self.pending.pop_front() {
+            if domain::leaves(&call, s, self.sizes).is_none() {
+                if let Call::Update(t) = call {
+                    self.clock = t;
+                }
+                return Some(call);
             }
-            return Some(call);
+            // a stretch of pushes has filled the ack list, and goes on when that is flushed
+            if call.name() == "push" && !s.acklist.is_empty() {
+                self.pending.push_front(call);
+                return Some(self.empty_acks(s));
+            }
         }
         if self.left == 0 {
             return None;
@@ -158,7 +179,7 @@ impl Generator {
         // with a full list only pushes that are not acknowledged stay on the domain: mostly the list is flushed in time
         let brim = if self.profile == Profile::Full { 0 } else { 70 };
         if s.acklist.len() + brim > self.sizes.acks && self.random.below(8) > 0 {
-            return Some(if s.updated { Call::FlushAck } else { Call::Update(self.clock) });
+            return Some(self.empty_acks(s));
         }
         for _ in 0..8 {
             let kind = self.random.weighted(moves::weights(self.profile));
@@ -171,6 +192,14 @@ impl Generator {
             }
         }
         Some(moves::make(Move::Getter, self, s))
+    }
+
+    fn empty_acks(&self, s: &State) -> Call {
+        if s.updated {
+            Call::FlushAck
+        } else {
+            Call::Update(self.clock)
+        }
     }
 
     /// Hears what the call showed: what the block sends goes to the other end, unless it is lost.

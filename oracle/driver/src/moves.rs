@@ -10,6 +10,9 @@ pub enum Move {
     Push,
     Big,
     PushRun,
+    /// A push as a call of its own, and a stretch of them.
+    Only,
+    Stretch,
     Ack,
     AckRun,
     AckTimes,
@@ -20,6 +23,8 @@ pub enum Move {
     Short,
     Recv,
     Drain,
+    /// One recv after the other.
+    Reads,
     Peek,
     MoveBuf,
     Send,
@@ -82,6 +87,13 @@ pub fn weights(profile: Profile) -> &'static [(Move, u32)] {
         Profile::Full => &[
             (PushRun, 300), (Push, 100), (Send, 60), (SendLong, 30), (Big, 20), (Peek, 5), (Wndsize, 2), (Recv, 2), (Flush, 1), (FlushAck, 1),
         ],
+        Profile::Pushes => &[
+            (Only, 40), (Stretch, 3), (Recv, 14), (Reads, 1), (Peek, 5), (MoveBuf, 4), (Wndsize, 4), (FlushAck, 3), (Tick, 3), (Flush, 1),
+            (Settings, 1), (Mtu, 1), (Conv, 1), (Getter, 1), (Ask, 1), (Push, 1),
+        ],
+        Profile::Queues => &[
+            (Stretch, 24), (Only, 10), (Recv, 6), (Reads, 3), (Wndsize, 10), (MoveBuf, 3), (Peek, 2), (FlushAck, 1), (Tick, 1), (Settings, 1),
+        ],
         Profile::Leaves => &[(Leaf, 1)],
     }
 }
@@ -95,7 +107,7 @@ pub fn first_calls(g: &mut Generator) -> Vec<Call> {
     }
     let wide = (g.sizes.receive / 2) as u16;
     match g.profile {
-        Profile::Windows => calls.push(Call::SetWndsize(32, r.pick(&[128, 129, 200, wide]).min(wide))),
+        Profile::Windows | Profile::Queues => calls.push(Call::SetWndsize(32, r.pick(&[128, 129, 200, wide]).min(wide))),
         Profile::Stuck => {
             calls.push(Call::SetNodelay(true, 10, r.below(4) as i32, true));
             calls.push(Call::SetWndsize(r.pick(&[16, 64, 1000, 65535]), 0));
@@ -132,6 +144,11 @@ pub fn make(kind: Move, g: &mut Generator, s: &State) -> Call {
         Push => Call::Input(vec![push(g, s)]),
         Big => big(g, s),
         PushRun => push_run(g, s),
+        Only => {
+            let sn = push_number(&mut g.random, s);
+            only(g, s, sn)
+        }
+        Stretch => stretch(g, s),
         Ack => Call::Input(acks(g, s)),
         AckRun => ack_run(g, s),
         AckTimes => Call::Input(some(g, s, ack_times, 2)),
@@ -145,6 +162,11 @@ pub fn make(kind: Move, g: &mut Generator, s: &State) -> Call {
         }
         Recv => Call::Recv(room(g, s)),
         Drain => Call::Recv(4000),
+        Reads => {
+            let count = g.random.pick(&[3, 20, 130]);
+            g.queue(vec![Call::Recv(4000); count]);
+            Call::Recv(room(g, s))
+        }
         Peek => Call::Peeksize,
         MoveBuf => Call::MoveBuf,
         Send => {
@@ -309,6 +331,51 @@ fn push_run(g: &mut Generator, s: &State) -> Call {
         pieces.push(Piece::Segment(h, fill));
     }
     Call::Input(pieces)
+}
+
+/// A fragment number of a push by itself: mostly an end. Large ones hold the queue up, so that one sequence in three has them.
+fn mark(g: &mut Generator) -> u8 {
+    let large = (g.sizes.send == 128) as u32;
+    let r = &mut g.random;
+    if large > 0 && r.once_in(500) {
+        return 255;
+    }
+    r.weighted(&[(0, 60), (1, 6), (2, 4), (3, 3), (7, large), (100, large), (127, large), (128, large), (254, large)])
+}
+
+/// A push as a call of its own.
+fn only(g: &mut Generator, s: &State, sn: u32) -> Call {
+    let frg = mark(g);
+    let ts = stamp(&mut g.random, s);
+    let n = g.random.weighted(&[(0, 6), (1, 20), (5, 12), (20, 8), (200, 2), (1376, 1), (1476, 1)]);
+    Call::Push(sn, frg, ts, g.fill(n))
+}
+
+/// Pushes one by one: from the awaited number, from behind the last held one, past a hole, or over the window's far edge; in
+/// order, backwards, mixed, or each of them twice.
+fn stretch(g: &mut Generator, s: &State) -> Call {
+    let r = &mut g.random;
+    let next = s.rcv_nxt;
+    let behind = s.rcv_buf.last().map_or(next, |x| x.sn.wrapping_add(1));
+    let hole = 1 + r.below(4) as u32;
+    let far = s.rcv_wnd as u32 - 6;
+    let first = r.weighted(&[(next, 6), (behind, 4), (next.wrapping_add(hole), 4), (next.wrapping_add(far), 1)]);
+    let count = r.pick(&[3, 12, 40, 130]);
+    let mut numbers: Vec<u32> = (0..count).map(|i| first.wrapping_add(i)).collect();
+    match r.below(6) {
+        0 => numbers.reverse(),
+        1 => {
+            for i in (1..numbers.len()).rev() {
+                numbers.swap(i, r.below(i + 1));
+            }
+        }
+        2 => numbers = numbers.iter().flat_map(|n| vec![*n, *n]).collect(),
+        _ => {}
+    }
+    let mut calls: Vec<Call> = numbers.into_iter().map(|sn| only(g, s, sn)).collect();
+    let call = calls.remove(0);
+    g.queue(calls);
+    call
 }
 
 fn ack(g: &mut Generator, s: &State) -> Piece {

@@ -130,6 +130,9 @@ impl<'a> Pair<'a> {
         if a.buffer != b.buffer {
             what.push("the caller's buffer".to_string());
         }
+        if let Some(stray) = &b.stray {
+            what.push(format!("lent memory: {}", stray));
+        }
         what
     }
 

@@ -16,18 +16,20 @@ pub enum Answer {
     Panicked,
 }
 
-/// All that a call shows: its answer, the pushes it skipped, what it sent, and the caller's buffer afterwards.
+/// All that a call shows: its answer, the pushes it skipped, what it sent, the caller's buffer afterwards, and what it wrote into
+/// lent memory that should have stayed.
 #[derive(Clone, PartialEq, Eq, Debug)]
 pub struct Outcome {
     pub answer: Answer,
     pub skipped: u32,
     pub datagrams: Vec<Vec<u8>>,
     pub buffer: Vec<u8>,
+    pub stray: Option<String>,
 }
 
 impl Outcome {
     pub fn new() -> Outcome {
-        Outcome { answer: Answer::Nothing, skipped: 0, datagrams: Vec::new(), buffer: Vec::new() }
+        Outcome { answer: Answer::Nothing, skipped: 0, datagrams: Vec::new(), buffer: Vec::new(), stray: None }
     }
 }
 

@@ -1,41 +1,67 @@
-//! The functions of the static library, each behind a safe one that takes a call and says what it showed.
+//! The functions of the static library, each behind a safe one. A group of them that the library lacks is declared all the same,
+//! as functions that are never called: `has` says which calls the port has.
 
-/// The calls that the port has, by name.
-#[cfg(not(kcp_c))]
-pub const HAS: [&str; 0] = [];
+use crate::memory::{Memory, Pool};
+use crate::watch::Before;
+use driver::call::{Call, Header, LEAVES};
+use driver::rust_side::BLANK;
+use driver::side::{Answer, Outcome};
 
-#[cfg(kcp_c)]
-pub const HAS: [&str; 7] =
-    ["timediff", "bound", "encode", "estimate", "helper_get_conv", "helper_set_conv", "helper_get_sn"];
+/// The calls of each group, by name, and whether the library has the group.
+const GROUPS: [(bool, &[&str]); 5] = [
+    (cfg!(kcp_c), &["timediff", "bound", "encode", "estimate", "helper_get_conv", "helper_set_conv", "helper_get_sn"]),
+    (cfg!(kcp_c_new), &["new"]),
+    (
+        cfg!(kcp_c_setters),
+        &[
+            "set_mtu", "set_interval", "set_nodelay", "set_rx_minrto", "set_fast_resend", "set_maximum_resend_times", "input_conv",
+            "set_conv",
+        ],
+    ),
+    (cfg!(kcp_c_receive), &["recv", "peeksize", "move_buf", "set_wndsize"]),
+    (cfg!(kcp_c_push), &["push"]),
+];
 
-#[cfg(not(kcp_c))]
-pub fn apply(_: &driver::call::Call, _: &mut driver::side::Outcome) {}
-
-#[cfg(kcp_c)]
-pub use linked::{apply, payload_get, payload_put, pool_test};
-
-#[cfg(not(kcp_c))]
-pub fn pool_test(_: &[u32], _: &[u32], _: &[u8], _: usize, _: usize) -> u32 {
-    0
+/// The calls that the port has.
+pub fn all() -> Vec<&'static str> {
+    GROUPS.iter().filter(|g| g.0).flat_map(|g| g.1.iter().copied()).collect()
 }
 
-#[cfg(not(kcp_c))]
-pub fn payload_put(_: &mut [u8], _: usize, _: &[u8]) -> bool {
-    false
+pub fn has(name: &str) -> bool {
+    GROUPS.iter().any(|g| g.0 && g.1.contains(&name))
 }
 
-#[cfg(not(kcp_c))]
-pub fn payload_get(_: &[u8], _: usize, _: &mut [u8]) -> bool {
-    false
+/// Whether it has any call on a block.
+pub fn has_block() -> bool {
+    all().iter().any(|name| !LEAVES.contains(name))
 }
 
-#[cfg(kcp_c)]
-mod linked {
-    use driver::call::{Call, Header};
-    use driver::side::{Answer, Outcome};
+macro_rules! linked {
+    ($($group:ident { $(fn $name:ident($($argument:ident: $kind:ty),* $(,)?) $(-> $answer:ty)?;)* })*) => {
+        $(
+            #[cfg($group)]
+            extern "C" {
+                $(fn $name($($argument: $kind),*) $(-> $answer)?;)*
+            }
+            $(
+                #[cfg(not($group))]
+                unsafe extern "C" fn $name($(_: $kind),*) $(-> $answer)? {
+                    lacking(stringify!($name))
+                }
+            )*
+        )*
+    };
+}
 
-    // a slice of Rattle's is a pointer and a length
-    extern "C" {
+#[cfg(not(all(kcp_c, kcp_c_new, kcp_c_setters, kcp_c_receive, kcp_c_push)))]
+fn lacking(name: &str) -> ! {
+    eprintln!("the library has no {}", name);
+    std::process::exit(2)
+}
+
+// a slice of Rattle's is a pointer and a length
+linked! {
+    kcp_c {
         fn kcp_timediff(a: u32, b: u32) -> i32;
         fn kcp_bound(low: u32, x: u32, high: u32) -> u32;
         fn kcp_get_conv(buf: *const u8, len: usize, conv: *mut u32) -> u32;
@@ -45,80 +71,263 @@ mod linked {
         fn kcp_header_numbers(bytes: *const [u8; 24], out: *mut [u32; 8]);
         fn kcp_measured(e: *mut [u32; 4], rtt: u32, interval: u32);
         fn kcp_pool_test(
-            order: *const u32,
-            slots: usize,
-            records: *const u32,
-            numbers: usize,
-            room: *const u8,
-            bytes: usize,
-            width: usize,
-            n: usize,
+            order: *const u32, slots: usize, records: *const u32, numbers: usize, room: *const u8, bytes: usize, width: usize, n: usize,
         ) -> u32;
-        fn kcp_payload_put(room: *mut u8, bytes: usize, slot: usize, src: *const u8, len: usize) -> bool;
-        fn kcp_payload_get(room: *const u8, bytes: usize, slot: usize, out: *mut u8, len: usize) -> bool;
     }
-
-    /// Whether a pool is well formed with n slots in use: 0, or 15.
-    pub fn pool_test(order: &[u32], records: &[u32], room: &[u8], width: usize, n: usize) -> u32 {
-        let (o, k, r) = (order.as_ptr(), records.as_ptr(), room.as_ptr());
-        unsafe { kcp_pool_test(o, order.len(), k, records.len(), r, room.len(), width, n) }
+    kcp_c_new {
+        fn kcp_new(
+            words: *mut u32, n: usize, conv: u32,
+            rcv_order: *const u32, rcv_slots: usize, rcv_records: *const u32, rcv_numbers: usize, rcv_room: *const u8, rcv_bytes: usize,
+            snd_order: *const u32, snd_slots: usize, snd_records: *const u32, snd_numbers: usize, snd_room: *const u8, snd_bytes: usize,
+            acks: *const u32, ack_numbers: usize, waiting: *const u8, waiting_bytes: usize,
+        ) -> u32;
+        fn kcp_new_stream(
+            words: *mut u32, n: usize, conv: u32,
+            rcv_order: *const u32, rcv_slots: usize, rcv_records: *const u32, rcv_numbers: usize, rcv_room: *const u8, rcv_bytes: usize,
+            snd_order: *const u32, snd_slots: usize, snd_records: *const u32, snd_numbers: usize, snd_room: *const u8, snd_bytes: usize,
+            acks: *const u32, ack_numbers: usize, waiting: *const u8, waiting_bytes: usize,
+        ) -> u32;
     }
-
-    /// Whether the copy fitted and was made.
-    pub fn payload_put(room: &mut [u8], slot: usize, src: &[u8]) -> bool {
-        unsafe { kcp_payload_put(room.as_mut_ptr(), room.len(), slot, src.as_ptr(), src.len()) }
+    kcp_c_setters {
+        fn kcp_set_mtu(words: *mut u32, n: usize, mtu: usize) -> u32;
+        fn kcp_set_interval(words: *mut u32, n: usize, interval: u32) -> u32;
+        fn kcp_set_nodelay(words: *mut u32, n: usize, nodelay: bool, interval: i32, resend: i32, nc: bool) -> u32;
+        fn kcp_set_rx_minrto(words: *mut u32, n: usize, minrto: u32) -> u32;
+        fn kcp_set_fast_resend(words: *mut u32, n: usize, resend: u32) -> u32;
+        fn kcp_set_maximum_resend_times(words: *mut u32, n: usize, times: u32) -> u32;
+        fn kcp_input_conv(words: *mut u32, n: usize) -> u32;
+        fn kcp_set_block_conv(words: *mut u32, n: usize, conv: u32) -> u32;
     }
-
-    pub fn payload_get(room: &[u8], slot: usize, out: &mut [u8]) -> bool {
-        unsafe { kcp_payload_get(room.as_ptr(), room.len(), slot, out.as_mut_ptr(), out.len()) }
+    kcp_c_receive {
+        fn kcp_move_buf(
+            words: *mut u32, n: usize,
+            order: *const u32, slots: usize, records: *const u32, numbers: usize, room: *const u8, bytes: usize,
+        ) -> u32;
+        fn kcp_peeksize(
+            words: *const u32, n: usize,
+            order: *const u32, slots: usize, records: *const u32, numbers: usize, room: *const u8, bytes: usize,
+            length: *mut usize,
+        ) -> u32;
+        fn kcp_recv(
+            words: *mut u32, n: usize,
+            order: *mut u32, slots: usize, records: *const u32, numbers: usize, room: *const u8, bytes: usize,
+            buf: *mut u8, len: usize, length: *mut usize,
+        ) -> u32;
+        fn kcp_set_wndsize(
+            words: *mut u32, n: usize, sndwnd: u16, rcvwnd: u16,
+            order: *const u32, slots: usize, records: *const u32, numbers: usize, room: *const u8, bytes: usize,
+        ) -> u32;
     }
-
-    fn refused(number: u32) -> Answer {
-        Answer::Refused { number: number as u8, values: vec![] }
+    kcp_c_push {
+        fn kcp_push(
+            words: *mut u32, n: usize,
+            order: *mut u32, slots: usize, records: *mut u32, numbers: usize, room: *mut u8, bytes: usize,
+            acks: *mut u32, ack_numbers: usize, waiting: *const u8, waiting_bytes: usize,
+            sn: u32, frg: u8, ts: u32, payload: *const u8, len: usize, skipped: *mut u32,
+        ) -> u32;
     }
+}
 
-    fn get(read: unsafe extern "C" fn(*const u8, usize, *mut u32) -> u32, buf: &[u8]) -> Answer {
-        const BEFORE: u32 = 0x5555_5555;
-        let mut number = BEFORE;
-        match unsafe { read(buf.as_ptr(), buf.len(), &mut number) } {
-            0 => Answer::Number(number as u64),
-            n if number == BEFORE => refused(n),
-            _ => Answer::Panicked,
+// ---- numbers and bytes alone
+
+/// Whether a pool is well formed with n slots in use: 0, or 15.
+pub fn pool_test(order: &[u32], records: &[u32], room: &[u8], width: usize, n: usize) -> u32 {
+    let (o, k, r) = (order.as_ptr(), records.as_ptr(), room.as_ptr());
+    unsafe { kcp_pool_test(o, order.len(), k, records.len(), r, room.len(), width, n) }
+}
+
+fn refused(number: u32) -> Answer {
+    Answer::Refused { number: number as u8, values: vec![] }
+}
+
+fn done(number: u32) -> Answer {
+    match number {
+        0 => Answer::Nothing,
+        n => refused(n),
+    }
+}
+
+fn get(read: unsafe extern "C" fn(*const u8, usize, *mut u32) -> u32, buf: &[u8]) -> Answer {
+    const BEFORE: u32 = 0x5555_5555;
+    let mut number = BEFORE;
+    match unsafe { read(buf.as_ptr(), buf.len(), &mut number) } {
+        0 => Answer::Number(number as u64),
+        n if number == BEFORE => refused(n),
+        _ => Answer::Panicked,
+    }
+}
+
+fn encode(h: &Header, len: u32, out: &mut Outcome) {
+    let mut bytes = [0; 24];
+    let mut numbers = [0; 8];
+    unsafe {
+        kcp_header_bytes(&mut bytes, h.conv, h.cmd, h.frg, h.wnd, h.ts, h.sn, h.una, len);
+        kcp_header_numbers(&bytes, &mut numbers);
+    }
+    out.buffer = bytes.to_vec();
+    out.answer = Answer::Numbers(numbers.iter().map(|x| *x as u64).collect());
+}
+
+/// Makes a call that takes no block.
+pub fn apply_leaf(call: &Call, out: &mut Outcome) {
+    *out = Outcome::new();
+    match call {
+        Call::Timediff(a, b) => out.answer = Answer::Signed(unsafe { kcp_timediff(*a, *b) } as i64),
+        Call::Bound(a, b, c) => out.answer = Answer::Number(unsafe { kcp_bound(*a, *b, *c) } as u64),
+        Call::GetConv(buf) => out.answer = get(kcp_get_conv, buf),
+        Call::GetSn(buf) => out.answer = get(kcp_get_sn, buf),
+        Call::PutConv(buf, conv) => {
+            out.buffer = buf.clone();
+            out.answer = done(unsafe { kcp_set_conv(out.buffer.as_mut_ptr(), buf.len(), *conv) });
         }
-    }
-
-    fn encode(h: &Header, len: u32, out: &mut Outcome) {
-        let mut bytes = [0; 24];
-        let mut numbers = [0; 8];
-        unsafe {
-            kcp_header_bytes(&mut bytes, h.conv, h.cmd, h.frg, h.wnd, h.ts, h.sn, h.una, len);
-            kcp_header_numbers(&bytes, &mut numbers);
+        Call::Encode(h, len) => encode(h, *len, out),
+        Call::Estimate(e, interval, rtt) => {
+            let mut e = *e;
+            unsafe { kcp_measured(&mut e, *rtt, *interval) };
+            out.answer = Answer::Numbers(e.iter().map(|x| *x as u64).collect());
         }
-        out.buffer = bytes.to_vec();
-        out.answer = Answer::Numbers(numbers.iter().map(|x| *x as u64).collect());
+        _ => out.answer = Answer::Panicked,
     }
+}
 
-    pub fn apply(call: &Call, out: &mut Outcome) {
-        *out = Outcome::new();
-        match call {
-            Call::Timediff(a, b) => out.answer = Answer::Signed(unsafe { kcp_timediff(*a, *b) } as i64),
-            Call::Bound(a, b, c) => out.answer = Answer::Number(unsafe { kcp_bound(*a, *b, *c) } as u64),
-            Call::GetConv(buf) => out.answer = get(kcp_get_conv, buf),
-            Call::GetSn(buf) => out.answer = get(kcp_get_sn, buf),
-            Call::PutConv(buf, conv) => {
-                out.buffer = buf.clone();
-                out.answer = match unsafe { kcp_set_conv(out.buffer.as_mut_ptr(), buf.len(), *conv) } {
-                    0 => Answer::Nothing,
-                    n => refused(n),
-                };
+// ---- on a block: each answers 0 or the number of the refusal
+
+pub fn new(m: &mut Memory, conv: u32, stream: bool) -> u32 {
+    let make = if stream { kcp_new_stream } else { kcp_new };
+    let (r, s) = (&m.receive, &m.send);
+    unsafe {
+        make(
+            m.words.as_mut_ptr(), m.words.len(), conv,
+            r.order.as_ptr(), r.order.len(), r.records.as_ptr(), r.records.len(), r.room.as_ptr(), r.room.len(),
+            s.order.as_ptr(), s.order.len(), s.records.as_ptr(), s.records.len(), s.room.as_ptr(), s.room.len(),
+            m.acks.as_ptr(), m.acks.len(), m.waiting.as_ptr(), m.waiting.len(),
+        )
+    }
+}
+
+pub fn set_mtu(m: &mut Memory, mtu: usize) -> u32 {
+    unsafe { kcp_set_mtu(m.words.as_mut_ptr(), m.words.len(), mtu) }
+}
+
+pub fn set_nodelay(m: &mut Memory, nodelay: bool, interval: i32, resend: i32, nc: bool) -> u32 {
+    unsafe { kcp_set_nodelay(m.words.as_mut_ptr(), m.words.len(), nodelay, interval, resend, nc) }
+}
+
+pub fn set_wndsize(m: &mut Memory, sndwnd: u16, rcvwnd: u16) -> u32 {
+    let (w, p) = (&mut m.words, &m.receive);
+    unsafe {
+        kcp_set_wndsize(
+            w.as_mut_ptr(), w.len(), sndwnd, rcvwnd,
+            p.order.as_ptr(), p.order.len(), p.records.as_ptr(), p.records.len(), p.room.as_ptr(), p.room.len(),
+        )
+    }
+}
+
+pub fn move_buf(m: &mut Memory) -> u32 {
+    let (w, p) = (&mut m.words, &m.receive);
+    unsafe {
+        kcp_move_buf(
+            w.as_mut_ptr(), w.len(),
+            p.order.as_ptr(), p.order.len(), p.records.as_ptr(), p.records.len(), p.room.as_ptr(), p.room.len(),
+        )
+    }
+}
+
+pub fn peeksize(m: &Memory, length: &mut usize) -> u32 {
+    let (w, p) = (&m.words, &m.receive);
+    unsafe {
+        kcp_peeksize(
+            w.as_ptr(), w.len(),
+            p.order.as_ptr(), p.order.len(), p.records.as_ptr(), p.records.len(), p.room.as_ptr(), p.room.len(),
+            length,
+        )
+    }
+}
+
+pub fn recv(m: &mut Memory, buf: &mut [u8], length: &mut usize) -> u32 {
+    let (w, p) = (&mut m.words, &mut m.receive);
+    unsafe {
+        kcp_recv(
+            w.as_mut_ptr(), w.len(),
+            p.order.as_mut_ptr(), p.order.len(), p.records.as_ptr(), p.records.len(), p.room.as_ptr(), p.room.len(),
+            buf.as_mut_ptr(), buf.len(), length,
+        )
+    }
+}
+
+pub fn push(m: &mut Memory, sn: u32, frg: u8, ts: u32, payload: &[u8], skipped: &mut u32) -> u32 {
+    let (w, a, b) = (&mut m.words, &mut m.acks, &m.waiting);
+    let Pool { order, records, room, .. } = &mut m.receive;
+    unsafe {
+        kcp_push(
+            w.as_mut_ptr(), w.len(),
+            order.as_mut_ptr(), order.len(), records.as_mut_ptr(), records.len(), room.as_mut_ptr(), room.len(),
+            a.as_mut_ptr(), a.len(), b.as_ptr(), b.len(),
+            sn, frg, ts, payload.as_ptr(), payload.len(), skipped,
+        )
+    }
+}
+
+/// The answer of a call that puts a length into its place, which a refusal leaves.
+fn counted(call: impl FnOnce(&mut usize) -> u32) -> Answer {
+    const BEFORE: usize = 0x5555_5555;
+    let mut length = BEFORE;
+    match call(&mut length) {
+        0 => Answer::Number(length as u64),
+        n if length == BEFORE => refused(n),
+        _ => Answer::Panicked,
+    }
+}
+
+/// A block made anew, whose numbers then start at `rcv` and `snd`.
+fn start(m: &mut Memory, conv: u32, stream: bool, rcv: u32, snd: u32) -> Answer {
+    let answer = done(new(m, conv, stream));
+    m.set_word("rcv_nxt", rcv);
+    m.set_word("snd_una", snd);
+    m.set_word("snd_nxt", snd);
+    answer
+}
+
+fn set(m: &mut Memory, call: &Call) -> Answer {
+    let (w, n) = (m.words.as_mut_ptr(), m.words.len());
+    let number = match call {
+        Call::SetMtu(mtu) => {
+            return match set_mtu(m, *mtu) {
+                10 => Answer::Refused { number: 10, values: vec![*mtu as u64] },
+                number => done(number),
             }
-            Call::Encode(h, len) => encode(h, *len, out),
-            Call::Estimate(e, interval, rtt) => {
-                let mut e = *e;
-                unsafe { kcp_measured(&mut e, *rtt, *interval) };
-                out.answer = Answer::Numbers(e.iter().map(|x| *x as u64).collect());
-            }
-            _ => out.answer = Answer::Panicked,
         }
+        Call::SetNodelay(nodelay, interval, resend, nc) => set_nodelay(m, *nodelay, *interval, *resend, *nc),
+        Call::SetInterval(x) => unsafe { kcp_set_interval(w, n, *x) },
+        Call::SetRxMinrto(x) => unsafe { kcp_set_rx_minrto(w, n, *x) },
+        Call::SetFastResend(x) => unsafe { kcp_set_fast_resend(w, n, *x) },
+        Call::SetMaximumResendTimes(x) => unsafe { kcp_set_maximum_resend_times(w, n, *x) },
+        Call::InputConv => unsafe { kcp_input_conv(w, n) },
+        Call::SetConv(x) => unsafe { kcp_set_block_conv(w, n, *x) },
+        _ => return Answer::Panicked,
+    };
+    done(number)
+}
+
+/// Makes a call on the block that the memory holds, and watches what else it writes there.
+pub fn apply(m: &mut Memory, call: &Call, out: &mut Outcome) {
+    *out = Outcome::new();
+    let before = Before::of(m, call);
+    match call {
+        Call::Start { conv, stream, rcv, snd, .. } => out.answer = start(m, *conv, *stream, *rcv, *snd),
+        Call::Recv(n) => {
+            out.buffer.resize(*n, BLANK);
+            let buffer = &mut out.buffer;
+            out.answer = counted(|length| recv(m, buffer, length));
+        }
+        Call::Peeksize => out.answer = counted(|length| peeksize(m, length)),
+        Call::MoveBuf => out.answer = done(move_buf(m)),
+        Call::SetWndsize(snd, rcv) => out.answer = done(set_wndsize(m, *snd, *rcv)),
+        Call::Push(sn, frg, ts, fill) => {
+            let payload: Vec<u8> = fill.bytes().collect();
+            out.answer = done(push(m, *sn, *frg, *ts, &payload, &mut out.skipped));
+        }
+        setter => out.answer = set(m, setter),
     }
+    out.stray = before.stray(m, call, out);
 }

@@ -1,6 +1,8 @@
-//! The other side: the port for the calls that it has, and a copy of the Rust for the rest. In part of the sequences the copy's
-//! state goes through the port's memory and back after every call, so that what laying and reading would get wrong shows as a
-//! difference.
+//! The other side: the port for the calls that it has, and a copy of the Rust for the rest.
+//!
+//! The port's calls on a block find its state in the lent memory and leave it there, so that from call to call the slots are those
+//! that the port itself chose; the state goes to the copy and back only where the copy must act. In part of the sequences it goes
+//! through the memory after every call of the copy too, so that what laying and reading would get wrong shows as a difference.
 
 use crate::exports;
 use crate::memory::Memory;
@@ -14,31 +16,67 @@ pub struct Joined<S: Side> {
     sizes: Sizes,
     /// Whether the port takes part at all.
     port: bool,
-    /// Whether this sequence goes through the memory; the others are compared with every number of every segment.
+    /// Whether this sequence goes through the memory after every call.
     through: bool,
+    /// Where the state stands: in the copy, in the memory, or in both.
+    in_copy: bool,
+    in_memory: bool,
+    s: State,
+}
+
+/// Whether the call leaves the state as it is.
+fn only_reads(call: &Call) -> bool {
+    match call {
+        Call::Get(_) | Call::Check(_) | Call::Peeksize => true,
+        _ => false,
+    }
 }
 
 impl<S: Side> Joined<S> {
     pub fn new(copy: S, port: bool) -> Joined<S> {
         let sizes = Sizes { receive: 1024, send: 1024, acks: 4096 };
-        Joined { copy, memory: Memory::new(sizes), sizes, port, through: false }
+        let memory = Memory::new(sizes);
+        Joined { copy, memory, sizes, port, through: false, in_copy: true, in_memory: false, s: State::default() }
     }
 
-    fn pass(&mut self) {
-        let mut s = State::default();
-        self.copy.read(&mut s);
-        assert!(self.memory.fits(&s), "a state of the domain does not fit the memory that is lent: {:?}", self.sizes);
-        self.memory.lay(&s);
-        self.memory.read(&mut s);
-        self.copy.lay(&s, self.sizes);
+    /// Whether the state that is read has been, or may have been, in the memory, which does not keep every number of every segment.
+    fn loses_unread(&self) -> bool {
+        self.through || self.port && exports::has_block()
     }
 
+    /// The memory that is lent, of the size that is wanted.
+    fn lend(&mut self) {
+        if self.memory.sizes() != self.sizes {
+            self.memory = Memory::new(self.sizes);
+            self.in_memory = false;
+        }
+    }
+
+    fn to_memory(&mut self) {
+        self.lend();
+        if !self.in_memory {
+            self.copy.read(&mut self.s);
+            assert!(self.memory.fits(&self.s), "a state of the domain does not fit the memory that is lent: {:?}", self.sizes);
+            self.memory.lay(&self.s);
+            self.in_memory = true;
+        }
+    }
+
+    fn to_copy(&mut self) {
+        if !self.in_copy {
+            self.memory.read(&mut self.s);
+            self.copy.lay(&self.s, self.sizes);
+            self.in_copy = true;
+        }
+    }
+
+    /// A new block: nothing of the state before it counts.
     fn start(&mut self, rcv: u32, snd: u32, sizes: Sizes) {
         self.through = (rcv ^ snd) % 3 == 0;
-        if self.through && sizes != self.sizes {
-            self.sizes = sizes;
-            self.memory = Memory::new(sizes);
-        }
+        self.sizes = sizes;
+        self.lend();
+        self.in_copy = true;
+        self.in_memory = true;
     }
 }
 
@@ -52,32 +90,54 @@ impl<S: Side> Side for Joined<S> {
     }
 
     fn keeps_all(&self) -> bool {
-        !self.through
+        !self.loses_unread()
     }
 
     fn apply(&mut self, call: &Call, out: &mut Outcome) {
+        let name = call.name();
+        let ported = self.port && exports::has(name);
+        if LEAVES.contains(&name) {
+            if ported {
+                exports::apply_leaf(call, out);
+            } else {
+                self.copy.apply(call, out);
+            }
+            return;
+        }
         if let Call::Start { rcv, snd, sizes, .. } = call {
             self.start(*rcv, *snd, *sizes);
         }
-        let name = call.name();
-        if self.port && exports::HAS.contains(&name) {
-            exports::apply(call, out);
+        let stays = only_reads(call);
+        if ported {
+            self.to_memory();
+            exports::apply(&mut self.memory, call, out);
+            self.in_copy &= stays;
             return;
         }
+        self.to_copy();
         self.copy.apply(call, out);
-        if self.through && !LEAVES.contains(&name) {
-            self.pass();
+        self.in_memory &= stays;
+        if self.through {
+            self.to_memory();
+            self.in_copy = false;
         }
     }
 
     fn read(&self, into: &mut State) {
-        self.copy.read(into);
-        if self.through {
+        if self.in_copy {
+            self.copy.read(into);
+        } else {
+            self.memory.read(into);
+        }
+        if self.loses_unread() {
             into.forget_unread();
         }
     }
 
     fn lay(&mut self, state: &State, sizes: Sizes) {
         self.copy.lay(state, sizes);
+        self.sizes = sizes;
+        self.in_copy = true;
+        self.in_memory = false;
     }
 }

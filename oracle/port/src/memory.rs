@@ -4,6 +4,9 @@
 //! and 1,476 bytes for each. The first entries of the order name the slots in use, front region then back region: of the receive
 //! pool the queue and the held segments, of the send pool those in flight and those that wait. An entry is the payload's length
 //! times 65,536 plus the slot. What stands in unused entries, records and bytes is no fault.
+//!
+//! A state that is laid keeps the slots in which its segments stand already: so long runs of the port's calls use the slots that the
+//! port chose, also where other calls come between them.
 
 use driver::call::{Sizes, PUSH};
 use state::{Segment, State};
@@ -23,7 +26,7 @@ pub const WORDS: [&str; 40] = [
     "queued", "held", "flying", "waiting_to_fly", "acks", "waiting",
 ];
 
-#[derive(Clone)]
+#[derive(Clone, PartialEq, Eq)]
 pub struct Pool {
     pub width: usize,
     pub order: Vec<u32>,
@@ -31,7 +34,7 @@ pub struct Pool {
     pub room: Vec<u8>,
 }
 
-#[derive(Clone)]
+#[derive(Clone, PartialEq, Eq)]
 pub struct Memory {
     pub words: Vec<u32>,
     pub receive: Pool,
@@ -50,19 +53,37 @@ impl Pool {
         Pool { width, order: vec![STALE; slots], records: vec![STALE; slots * width], room: vec![0xEE; slots * ROOM] }
     }
 
-    /// Puts the segments into slots that are scattered by `turn`.
-    fn lay<'a>(&mut self, turn: usize, segments: impl Iterator<Item = (&'a Segment, Vec<u32>)>) -> usize {
+    /// Whether the front of the order holds just these segments, each in a slot of its own.
+    fn holds<'a>(&self, segments: impl Iterator<Item = (&'a Segment, Vec<u32>)>) -> bool {
+        let mut used = vec![false; self.order.len()];
+        for (n, (segment, numbers)) in segments.enumerate() {
+            let entry = self.order.get(n).map_or(usize::MAX, |x| *x as usize);
+            let (slot, len) = (entry % 65536, entry / 65536);
+            if slot >= used.len() || used[slot] || len != segment.data.len() {
+                return false;
+            }
+            used[slot] = true;
+            if self.records[slot * self.width..][..self.width] != numbers[..] || self.room[slot * ROOM..][..len] != segment.data[..] {
+                return false;
+            }
+        }
+        true
+    }
+
+    /// Puts the segments into slots that are scattered by `turn`, unless they stand there already.
+    fn lay<'a>(&mut self, turn: usize, segments: impl Iterator<Item = (&'a Segment, Vec<u32>)> + Clone) {
+        if self.holds(segments.clone()) {
+            return;
+        }
         let slots = self.order.len();
-        let mut n = 0;
-        for (segment, numbers) in segments {
-            let slot = (turn + n * stride(slots)) % slots;
+        let step = stride(slots);
+        for (n, (segment, numbers)) in segments.enumerate() {
+            let slot = (turn + n * step) % slots;
             let len = segment.data.len();
             self.order[n] = (len * 65536 + slot) as u32;
             self.records[slot * self.width..][..self.width].copy_from_slice(&numbers);
             self.room[slot * ROOM..][..len].copy_from_slice(&segment.data);
-            n += 1;
         }
-        n
     }
 
     fn read(&self, from: usize, count: usize, into: &mut Vec<Segment>, of: fn(&[u32]) -> Segment) {
@@ -130,8 +151,30 @@ impl Memory {
         }
     }
 
+    /// The sizes of what is lent.
+    pub fn sizes(&self) -> Sizes {
+        Sizes { receive: self.receive.order.len(), send: self.send.order.len(), acks: self.acks.len() / 2 }
+    }
+
+    /// The bytes of all that is lent, the words of the block among them.
+    pub fn bytes(&self) -> usize {
+        let pool = |p: &Pool| 4 * (p.order.len() + p.records.len()) + p.room.len();
+        4 * (self.words.len() + self.acks.len()) + self.waiting.len() + pool(&self.receive) + pool(&self.send)
+    }
+
+    /// The number of that name among the words of a block.
+    pub fn word_of(words: &[u32], name: &str) -> u32 {
+        WORDS.iter().position(|w| *w == name).map_or(0, |i| words[i])
+    }
+
     pub fn word(&self, name: &str) -> u32 {
-        WORDS.iter().position(|w| *w == name).map_or(0, |i| self.words[i])
+        Memory::word_of(&self.words, name)
+    }
+
+    pub fn set_word(&mut self, name: &str, value: u32) {
+        if let Some(i) = WORDS.iter().position(|w| *w == name) {
+            self.words[i] = value;
+        }
     }
 
     /// Whether the state has a place in memory of this size: every state that the domain of equality allows has one.

@@ -6,7 +6,7 @@ use driver::run::{replay, run, Finding, Plan, Replay};
 use driver::shrink::shrink;
 use driver::side::Side;
 use driver::{rust_side, Judge};
-use port::exports::HAS;
+use port::exports;
 use port::joined::Joined;
 use std::io::{self, Write};
 use std::process::exit;
@@ -27,12 +27,21 @@ struct Wanted {
     /// Says on standard error how far it is: for a terminal.
     progress: bool,
     rows: bool,
+    departures: bool,
     /// The other side is the copy of the Rust alone.
     copy: bool,
 }
 
 fn arguments() -> Wanted {
-    let mut wanted = Wanted { plan: Plan::default(), script: None, brief: false, progress: false, rows: false, copy: false };
+    let mut wanted = Wanted {
+        plan: Plan::default(),
+        script: None,
+        brief: false,
+        progress: false,
+        rows: false,
+        departures: false,
+        copy: false,
+    };
     let mut words = Vec::new();
     let mut rest = std::env::args().skip(1);
     while let Some(word) = rest.next() {
@@ -42,12 +51,13 @@ fn arguments() -> Wanted {
             "--brief" => wanted.brief = true,
             "--copy" => wanted.copy = true,
             "--rows" => wanted.rows = true,
+            "--departures" => wanted.departures = true,
             "--progress" => wanted.progress = true,
             w if w.starts_with('-') => usage(&format!("unknown option '{}'", w)),
             _ => words.push(word),
         }
     }
-    if wanted.script.is_none() && !wanted.rows {
+    if wanted.script.is_none() && !wanted.rows && !wanted.departures {
         if words.len() < 2 {
             usage("SEED and COUNT are wanted");
         }
@@ -76,10 +86,10 @@ fn profile(word: Option<String>) -> driver::generator::Profile {
 }
 
 fn sides(wanted: &Wanted) -> String {
-    if wanted.copy || HAS.is_empty() {
+    if wanted.copy || exports::all().is_empty() {
         return "a copy of the Rust".to_string();
     }
-    format!("the port for {}; a copy of the Rust for the rest", HAS.join(", "))
+    format!("the port for {}; a copy of the Rust for the rest", exports::all().join(", "))
 }
 
 /// The calls of a script, each with its line.
@@ -116,7 +126,10 @@ fn shown(finding: &Finding) -> String {
 fn main() {
     let wanted = arguments();
     if wanted.rows {
-        rows();
+        table(driver::rows::run(&mut Judge::default()));
+    }
+    if wanted.departures {
+        table(port::departures::run());
     }
     let script = wanted.script.as_ref().map(|path| (path, read_script(path)));
     let mut text = String::new();
@@ -159,10 +172,11 @@ fn replayed(wanted: &Wanted, path: &str, script: &[(usize, Call)]) -> (u64, Opti
     }
 }
 
-/// Document 01's worked values, on the judge.
-fn rows() -> ! {
-    let (bad, lines) = driver::rows::run(&mut Judge::default());
-    say(&format!("{}\n{} rows, {} wrong\n", lines.join("\n"), lines.len(), bad));
+/// Rows that have been run: how many are wrong, and a line for each.
+fn table((bad, lines): (usize, Vec<String>)) -> ! {
+    let not_yet = lines.iter().filter(|line| line.starts_with("not yet")).count();
+    let rest = if not_yet > 0 { format!(", {} not yet", not_yet) } else { String::new() };
+    say(&format!("{}\n{} rows, {} wrong{}\n", lines.join("\n"), lines.len(), bad, rest));
     exit((bad > 0) as i32)
 }
 

@@ -1,22 +1,21 @@
-//! The lent memory by itself: what the test of a pool costs, which every call that is handed one makes, and what a copy into or
-//! out of a slot costs beside a plain copy.
+//! The lent memory by itself: what the test of a pool costs, which every call that is handed one makes.
 
 use crate::clock::{opaque, Timed};
 use crate::side::give_up;
 use port::exports;
-use port::memory::{Pool, ROOM, SEND_WIDTH};
+use port::memory::{Pool, SEND_WIDTH};
 use std::time::{Duration, Instant};
 
 const SLOTS: usize = 1024;
 const CALLS: usize = 64;
 const PAYLOAD: usize = 1376;
 
-/// The rows: name, the plain side if there is one, and ours.
-pub fn all() -> Vec<(&'static str, Option<Box<dyn Timed>>, Box<dyn Timed>)> {
-    if exports::HAS.is_empty() {
+/// The rows, of ours alone; none while the port is not linked.
+pub fn all() -> Vec<(&'static str, Box<dyn Timed>)> {
+    if exports::all().is_empty() {
         return Vec::new();
     }
-    let mut rows: Vec<(&'static str, Option<Box<dyn Timed>>, Box<dyn Timed>)> = Vec::new();
+    let mut rows: Vec<(&'static str, Box<dyn Timed>)> = Vec::new();
     for (name, used) in [
         ("lent-test-idle", 0),
         ("lent-test-32", 32),
@@ -24,10 +23,7 @@ pub fn all() -> Vec<(&'static str, Option<Box<dyn Timed>>, Box<dyn Timed>)> {
         ("lent-test-512", 512),
         ("lent-test-1024", 1024),
     ] {
-        rows.push((name, None, Box::new(Test::new(used))));
-    }
-    for (name, out) in [("lent-put-1376", false), ("lent-get-1376", true)] {
-        rows.push((name, Some(Box::new(Copied::new(out, true))), Box::new(Copied::new(out, false))));
+        rows.push((name, Box::new(Test::new(used))));
     }
     rows
 }
@@ -67,63 +63,6 @@ impl Timed for Test {
         let from = Instant::now();
         for _ in 0..CALLS {
             opaque(self.run());
-        }
-        from.elapsed()
-    }
-
-    fn calls(&self) -> usize {
-        CALLS
-    }
-}
-
-/// A copy of a payload into the slots of a room one after the other, or out of them.
-struct Copied {
-    room: Vec<u8>,
-    payload: Vec<u8>,
-    out: bool,
-    plain: bool,
-}
-
-impl Copied {
-    fn new(out: bool, plain: bool) -> Copied {
-        Copied { room: vec![3; CALLS * ROOM], payload: vec![7; PAYLOAD], out, plain }
-    }
-
-    fn run(&mut self, slot: usize) -> bool {
-        if self.plain {
-            let place = &mut self.room[slot * ROOM..][..PAYLOAD];
-            if self.out {
-                self.payload.copy_from_slice(place);
-            } else {
-                place.copy_from_slice(&self.payload);
-            }
-            return true;
-        }
-        if self.out {
-            exports::payload_get(&self.room, slot, &mut self.payload)
-        } else {
-            exports::payload_put(&mut self.room, slot, &self.payload)
-        }
-    }
-}
-
-impl Timed for Copied {
-    fn check(&mut self) {
-        let (first, second) = if self.out { (3, 7) } else { (7, 3) };
-        self.room.iter_mut().for_each(|b| *b = 3);
-        self.payload.iter_mut().for_each(|b| *b = 7);
-        let made = self.run(5);
-        let copied = if self.out { self.payload[PAYLOAD - 1] } else { self.room[5 * ROOM + PAYLOAD - 1] };
-        let beside = if self.out { second } else { self.room[5 * ROOM + PAYLOAD] };
-        if !made || copied != first || beside != second {
-            give_up("a copy is not what it should be");
-        }
-    }
-
-    fn stretch(&mut self) -> Duration {
-        let from = Instant::now();
-        for slot in 0..CALLS {
-            opaque(self.run(opaque(slot)));
         }
         from.elapsed()
     }

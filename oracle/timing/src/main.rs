@@ -78,12 +78,12 @@ fn time_all(progress: bool) -> Vec<Line> {
     lines
 }
 
-/// The lent memory by itself: the first side is a plain copy, where there is one to compare with.
+/// The lent memory by itself: there is nothing of the Rust's to compare with.
 fn time_lent() -> Vec<Line> {
     let clock = clock::cost();
-    let time = |(name, plain, ours)| {
-        let figures = clock::rounds(vec![plain, Some(ours)], clock);
-        Line { name, rust: figures[0], ours: figures[1] }
+    let time = |(name, ours)| {
+        let figures = clock::rounds(vec![Some(ours)], clock);
+        Line { name, rust: None, ours: figures[0] }
     };
     lent::all().into_iter().map(time).collect()
 }
@@ -123,8 +123,8 @@ fn table_figures(text: &mut String, figures: Option<Figures>, none: &str) {
     };
 }
 
-fn table(text: &mut String, title: &str, first: &str, lines: &[Line], none: [&str; 2]) {
-    let _ = writeln!(text, "{:28}{:>12}{:>12}{:>12}{:>12}{:>8}", title, first, "median", "ours least", "median", "ratio");
+fn table(text: &mut String, title: &str, lines: &[Line], none: [&str; 2]) {
+    let _ = writeln!(text, "{:28}{:>12}{:>12}{:>12}{:>12}{:>8}", title, "Rust least", "median", "ours least", "median", "ratio");
     for line in lines {
         let _ = write!(text, "{:28}", line.name);
         table_figures(text, line.rust, none[0]);
@@ -138,7 +138,7 @@ fn table(text: &mut String, title: &str, first: &str, lines: &[Line], none: [&st
 
 fn as_tables(lines: &[Line], held: &[(&str, usize)], lent: &[Line]) -> String {
     let mut text = String::new();
-    table(&mut text, "row, ns", "Rust least", lines, ["", "not yet"]);
+    table(&mut text, "row, ns", lines, ["", "not yet"]);
     let _ = writeln!(text, "\n{:28}{:>12}{:>24}", "bytes a connection", "Rust", "ours");
     for (name, bytes) in held {
         let _ = write!(text, "{:28}{:12}", name, bytes);
@@ -149,7 +149,7 @@ fn as_tables(lines: &[Line], held: &[(&str, usize)], lent: &[Line]) -> String {
     }
     if !lent.is_empty() {
         text.push('\n');
-        table(&mut text, "lent memory, ns", "plain least", lent, ["-", ""]);
+        table(&mut text, "lent memory, ns", lent, ["-", ""]);
     }
     // All depend on it: on its code, and on how its library's lists grow.
     let _ = writeln!(text, "\nThe Rust built by {}", option_env!("BUILT_BY").unwrap_or("an unknown compiler"));

@@ -18,6 +18,9 @@ pub fn all<S: Side>() -> Vec<Row<S>> {
         loopback("loopback-512", 512),
         input_push(),
         input_repeat(),
+        push("push-1400", 256),
+        push("push-1400-of-1024", 1024),
+        push_repeat(),
         input_50_acks(),
         input_50_acks_newest_first(),
         send("send-1k", KIB, 1),
@@ -27,7 +30,10 @@ pub fn all<S: Side>() -> Vec<Row<S>> {
         flush_sending(),
         update_idle(),
         check(),
-        recv(),
+        recv("recv-1k", 256),
+        recv("recv-1k-of-1024", 1024),
+        recv_queued("recv-1k-128-queued", 256),
+        recv_queued("recv-1k-128-queued-of-1024", 1024),
         flush_acks(),
     ]
 }
@@ -37,7 +43,7 @@ pub fn all<S: Side>() -> Vec<Row<S>> {
 fn loopback<S: Side>(name: &'static str, window: u16) -> Row<S> {
     Row {
         name,
-        needs: &[Call::Send, Call::Input, Call::Recv],
+        needs: &[Call::Send, Call::Input, Call::Recv, Call::Update],
         blocks: 2,
         window,
         calls: window as usize,
@@ -77,7 +83,7 @@ fn loopback<S: Side>(name: &'static str, window: u16) -> Row<S> {
 fn input_push<S: Side>() -> Row<S> {
     Row {
         name: "input-push-1400",
-        needs: &[Call::Input, Call::Recv, Call::Flush],
+        needs: &[Call::Input, Call::Recv, Call::Flush, Call::Update],
         blocks: SOME,
         calls: SOME,
         after: Sizes { readable: 1, acks: 1, ..NONE },
@@ -100,7 +106,7 @@ fn input_push<S: Side>() -> Row<S> {
 fn input_repeat<S: Side>() -> Row<S> {
     Row {
         name: "input-repeat-511-held",
-        needs: &[Call::Input, Call::Flush],
+        needs: &[Call::Input, Call::Flush, Call::Update],
         window: 512,
         calls: OFTEN,
         before: Sizes { held: 511, ..NONE },
@@ -123,12 +129,64 @@ fn input_repeat<S: Side>() -> Row<S> {
     }
 }
 
+/// The push that is next by itself, with the payload of 1,400 bytes in all, and nothing held, readable or to be acked.
+fn push<S: Side>(name: &'static str, slots: usize) -> Row<S> {
+    Row {
+        name,
+        needs: &[Call::Push, Call::Recv],
+        blocks: SOME,
+        slots,
+        calls: SOME,
+        after: Sizes { readable: 1, acks: 1, ..NONE },
+        start: |s| s.message = vec![7; 1400 - HEADER],
+        run: |s| {
+            for b in &mut s.blocks {
+                s.answer = b.push(opaque(s.number), &s.message);
+            }
+        },
+        settle: |s| {
+            for b in &mut s.blocks {
+                b.recv(&mut s.into);
+                b.forget_acks();
+            }
+            s.number += 1;
+        },
+        ..blank()
+    }
+}
+
+/// As `input_repeat`, by the push alone.
+fn push_repeat<S: Side>() -> Row<S> {
+    Row {
+        name: "push-repeat-511-held",
+        needs: &[Call::Push],
+        window: 512,
+        calls: OFTEN,
+        before: Sizes { held: 511, ..NONE },
+        after: Sizes { held: 511, acks: OFTEN, ..NONE },
+        start: |s| {
+            s.message = vec![7; 1400 - HEADER];
+            for number in (1..512).rev() {
+                s.blocks[0].push(number, &s.message);
+                s.blocks[0].forget_acks();
+            }
+        },
+        run: |s| {
+            for _ in 0..OFTEN {
+                s.answer = s.blocks[0].push(opaque(1), &s.message);
+            }
+        },
+        settle: |s| s.blocks[0].forget_acks(),
+        ..blank()
+    }
+}
+
 /// 50 segments of 1 KiB in flight; one datagram of their 50 acks, oldest first. una takes none of them, so that each is
 /// looked for by its number.
 fn input_50_acks<S: Side>() -> Row<S> {
     Row {
         name: "input-50-acks",
-        needs: &[Call::Send, Call::Flush, Call::Input],
+        needs: &[Call::Send, Call::Flush, Call::Input, Call::Update],
         blocks: 4,
         calls: 4,
         before: Sizes { in_flight: 50, ..NONE },
@@ -146,7 +204,7 @@ fn input_50_acks<S: Side>() -> Row<S> {
 fn input_50_acks_newest_first<S: Side>() -> Row<S> {
     Row {
         name: "input-50-acks-newest-first",
-        needs: &[Call::Send, Call::Flush, Call::Input],
+        needs: &[Call::Send, Call::Flush, Call::Input, Call::Update],
         blocks: 2,
         calls: 2,
         before: Sizes { in_flight: 128, ..NONE },
@@ -168,7 +226,7 @@ fn send<S: Side>(name: &'static str, length: usize, segments: usize) -> Row<S> {
     let blocks = if segments == 1 { SOME } else { 1 };
     Row {
         name,
-        needs: &[Call::Send, Call::Flush, Call::Input],
+        needs: &[Call::Send, Call::Flush, Call::Input, Call::Update],
         blocks,
         calls: blocks,
         after: Sizes { queued: segments, ..NONE },
@@ -189,14 +247,14 @@ fn send<S: Side>(name: &'static str, length: usize, segments: usize) -> Row<S> {
 
 /// Nothing to send, to resend or to ack.
 fn flush_idle<S: Side>() -> Row<S> {
-    Row { name: "flush-idle", needs: &[Call::Flush], calls: OFTEN, run: flush_often, ..blank() }
+    Row { name: "flush-idle", needs: &[Call::Flush, Call::Update], calls: OFTEN, run: flush_often, ..blank() }
 }
 
 /// 128 segments of 1 KiB in flight, sent by the flush before.
 fn flush_none_due<S: Side>() -> Row<S> {
     Row {
         name: "flush-128-none-due",
-        needs: &[Call::Send, Call::Flush],
+        needs: &[Call::Send, Call::Flush, Call::Update],
         calls: OFTEN,
         before: Sizes { in_flight: 128, ..NONE },
         after: Sizes { in_flight: 128, ..NONE },
@@ -210,7 +268,7 @@ fn flush_none_due<S: Side>() -> Row<S> {
 fn flush_sending<S: Side>() -> Row<S> {
     Row {
         name: "flush-128x1k",
-        needs: &[Call::Send, Call::Flush, Call::Input],
+        needs: &[Call::Send, Call::Flush, Call::Input, Call::Update],
         before: Sizes { queued: 128, ..NONE },
         after: Sizes { in_flight: 128, datagrams: 128, bytes: 128 * (HEADER + KIB), ..NONE },
         prepare: |s| {
@@ -228,6 +286,7 @@ fn flush_sending<S: Side>() -> Row<S> {
 fn update_idle<S: Side>() -> Row<S> {
     Row {
         name: "update-idle",
+        needs: &[Call::Update],
         calls: OFTEN,
         run: |s| {
             for _ in 0..OFTEN {
@@ -243,7 +302,7 @@ fn update_idle<S: Side>() -> Row<S> {
 fn check<S: Side>() -> Row<S> {
     Row {
         name: "check-128",
-        needs: &[Call::Send, Call::Flush, Call::Check],
+        needs: &[Call::Send, Call::Flush, Call::Check, Call::Update],
         calls: OFTEN,
         before: Sizes { in_flight: 128, ..NONE },
         after: Sizes { in_flight: 128, ..NONE },
@@ -258,32 +317,42 @@ fn check<S: Side>() -> Row<S> {
     }
 }
 
-/// One message of 1 KiB readable, nothing held behind it, and its ack flushed.
-fn recv<S: Side>() -> Row<S> {
+/// One message of 1 KiB readable, nothing held behind it, and its ack gone.
+fn recv<S: Side>(name: &'static str, slots: usize) -> Row<S> {
     Row {
-        name: "recv-1k",
-        needs: &[Call::Input, Call::Flush, Call::Recv],
+        name,
+        needs: &[Call::Push, Call::Recv],
         blocks: SOME,
+        slots,
         calls: SOME,
         before: Sizes { readable: 1, ..NONE },
         answer: KIB,
-        start: |s| s.datagram = datagram_of(PUSH, 0, s.window, &s.message),
-        prepare: |s| {
-            for b in &mut s.blocks {
-                b.input(&s.datagram);
-                b.flush();
-                b.forget();
+        prepare: push_each,
+        run: recv_each,
+        settle: expect_message,
+        ..blank()
+    }
+}
+
+/// One message of 1 KiB, with 128 readable and none held; the queue is as long as the window.
+fn recv_queued<S: Side>(name: &'static str, slots: usize) -> Row<S> {
+    Row {
+        name,
+        needs: &[Call::Push, Call::Recv],
+        blocks: SOME,
+        slots,
+        calls: SOME,
+        before: Sizes { readable: 128, ..NONE },
+        after: Sizes { readable: 127, ..NONE },
+        answer: KIB,
+        start: |s| {
+            for _ in 0..127 {
+                push_each(s);
             }
         },
-        run: |s| {
-            for b in &mut s.blocks {
-                s.answer = b.recv(&mut s.into);
-            }
-        },
-        settle: |s| {
-            expect_message(s);
-            raise(&mut s.datagram, 1);
-        },
+        prepare: push_each,
+        run: recv_each,
+        settle: expect_message,
         ..blank()
     }
 }
@@ -292,7 +361,7 @@ fn recv<S: Side>() -> Row<S> {
 fn flush_acks<S: Side>() -> Row<S> {
     Row {
         name: "flush-128-acks",
-        needs: &[Call::Input, Call::Recv, Call::Flush],
+        needs: &[Call::Input, Call::Recv, Call::Flush, Call::Update],
         before: Sizes { acks: 128, ..NONE },
         after: Sizes { datagrams: 3, bytes: 128 * HEADER, ..NONE },
         start: |s| {
@@ -315,6 +384,21 @@ fn input_each<S: Side>(s: &mut Stand<S>) {
     for b in &mut s.blocks {
         s.answer = b.input(&s.datagram);
     }
+}
+
+fn recv_each<S: Side>(s: &mut Stand<S>) {
+    for b in &mut s.blocks {
+        s.answer = b.recv(&mut s.into);
+    }
+}
+
+/// Has each block receive the message, whose ack is gone at once.
+fn push_each<S: Side>(s: &mut Stand<S>) {
+    for b in &mut s.blocks {
+        b.push(s.number, &s.message);
+        b.forget_acks();
+    }
+    s.number += 1;
 }
 
 fn flush_often<S: Side>(s: &mut Stand<S>) {

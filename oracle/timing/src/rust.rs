@@ -44,19 +44,11 @@ fn done<T>(call: &str, answer: KcpResult<T>) -> T {
 
 // No call is inlined into a row: each is a call into a library, as the port's are.
 impl Side for Rust {
-    const HAS: &'static [Call] = &[
-        Call::New,
-        Call::SetNodelay,
-        Call::SetWndsize,
-        Call::Input,
-        Call::Send,
-        Call::Recv,
-        Call::Flush,
-        Call::Update,
-        Call::Check,
-    ];
+    fn has_call(_: Call) -> bool {
+        true
+    }
 
-    fn new(conv: u32, _window: u16) -> Rust {
+    fn new(conv: u32, _window: u16, _slots: usize) -> Rust {
         Rust { block: Kcp::new(conv, Sink::default()) }
     }
 
@@ -71,6 +63,12 @@ impl Side for Rust {
     #[inline(never)]
     fn input(&mut self, datagram: &[u8]) -> usize {
         done("input", self.block.input(datagram))
+    }
+
+    #[inline(never)]
+    fn push(&mut self, sn: u32, payload: &[u8]) -> usize {
+        inside::push_of(&mut self.block, sn, 0, 0, payload);
+        0
     }
 
     #[inline(never)]
@@ -110,6 +108,10 @@ impl Side for Rust {
 
     fn forget(&mut self) {
         *inside::output(&mut self.block) = Sink::default();
+    }
+
+    fn forget_acks(&mut self) {
+        inside::forget_acks(&mut self.block)
     }
 
     fn sizes(&mut self) -> Sizes {

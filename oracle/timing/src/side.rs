@@ -1,4 +1,4 @@
-//! What the rows ask of a side. A call that a side has not yet is left out of `HAS`, and is then never made.
+//! What the rows ask of a side. A call that a side has not yet is never made: `has_call` says which it has.
 
 /// The calls that rows are prepared and timed by.
 #[derive(Clone, Copy, PartialEq, Eq, Debug)]
@@ -7,6 +7,8 @@ pub enum Call {
     SetNodelay,
     SetWndsize,
     Input,
+    /// The push part of input by itself.
+    Push,
     Send,
     Recv,
     Flush,
@@ -32,15 +34,17 @@ pub struct Sizes {
 
 /// A control block. A refused call ends the bench with a message, since no row makes one.
 pub trait Side: Sized + 'static {
-    const HAS: &'static [Call];
+    fn has_call(call: Call) -> bool;
 
-    /// A plain block, with room for this window both ways and for as many acks; all memory lent to it has been touched, so
-    /// that no row times a page's first use.
-    fn new(conv: u32, window: u16) -> Self;
+    /// A plain block, with so many receive slots, room for this window to send and for as many acks; all memory lent to it has
+    /// been touched, so that no row times a page's first use.
+    fn new(conv: u32, window: u16, slots: usize) -> Self;
 
     fn set_nodelay(&mut self, nodelay: bool, interval: i32, resend: i32, nc: bool);
     fn set_wndsize(&mut self, sndwnd: u16, rcvwnd: u16);
     fn input(&mut self, datagram: &[u8]) -> usize;
+    /// Answers the pushes skipped.
+    fn push(&mut self, sn: u32, payload: &[u8]) -> usize;
     fn send(&mut self, message: &[u8]) -> usize;
     fn recv(&mut self, into: &mut [u8]) -> usize;
     fn flush(&mut self);
@@ -54,12 +58,14 @@ pub trait Side: Sized + 'static {
     fn sizes(&mut self) -> Sizes;
     /// Begins the count of datagrams and bytes anew.
     fn forget(&mut self);
+    /// Empties the ack list, as a flush does.
+    fn forget_acks(&mut self);
 
     /// The bytes that a connection with window 512 holds at all times, if this side's memory is fixed.
     fn fixed_bytes() -> Option<usize>;
 
     fn has(calls: &[Call]) -> bool {
-        calls.iter().all(|call| Self::HAS.contains(call))
+        calls.iter().all(|call| Self::has_call(*call))
     }
 }
 

@@ -10,7 +10,7 @@ pub const INTERVAL: u32 = 10;
 /// A block with nothing to do.
 pub const NONE: Sizes = Sizes { queued: 0, in_flight: 0, held: 0, readable: 0, acks: 0, datagrams: 0, bytes: 0 };
 /// The calls that every row makes its blocks by.
-const MAKING: &[Call] = &[Call::New, Call::SetNodelay, Call::SetWndsize, Call::Update];
+const MAKING: &[Call] = &[Call::New, Call::SetNodelay, Call::SetWndsize];
 
 /// The blocks of one side that a row calls, and what it calls them with.
 pub struct Stand<S> {
@@ -19,6 +19,8 @@ pub struct Stand<S> {
     pub now: u32,
     pub message: Vec<u8>,
     pub into: Vec<u8>,
+    /// The number of the next push of its own.
+    pub number: u32,
     /// The input of a row that times one. Its numbers are raised after each stretch, as a block's are.
     pub datagram: Vec<u8>,
     /// A tell whose una says that everything in flight has arrived.
@@ -30,10 +32,12 @@ pub struct Stand<S> {
 /// What is called, and in which state. One run of the timed calls, with what is done before and after it, is a stretch.
 pub struct Row<S> {
     pub name: &'static str,
-    /// The calls that it needs besides those of `MAKING`.
+    /// The calls that it needs besides those of `MAKING`. Where update is among them, its blocks have been updated once.
     pub needs: &'static [Call],
     pub blocks: usize,
     pub window: u16,
+    /// The receive slots lent to a side whose memory is fixed; 0 is for twice the window.
+    pub slots: usize,
     /// How many calls one run makes, over all blocks; of a loopback, how many messages it carries.
     pub calls: usize,
     /// What each block holds before a run and after it, and what the last call answers.
@@ -57,6 +61,7 @@ pub fn blank<S: Side>() -> Row<S> {
         needs: &[],
         blocks: 1,
         window: 128,
+        slots: 0,
         calls: 1,
         before: NONE,
         after: NONE,
@@ -93,6 +98,7 @@ impl<S: Side> Row<S> {
             now: 0,
             message: (0..KIB).map(|i| i as u8).collect(),
             into: vec![0; 2 * KIB],
+            number: 0,
             datagram: Vec::new(),
             arrived: datagram_of(TELL, 0, self.window, &[]),
             answer: 0,
@@ -101,10 +107,13 @@ impl<S: Side> Row<S> {
 
     /// No congestion window, so that the windows alone say what may be in flight.
     fn block(&self) -> S {
-        let mut block = S::new(CONV, self.window);
+        let slots = if self.slots == 0 { 2 * self.window as usize } else { self.slots };
+        let mut block = S::new(CONV, self.window, slots);
         block.set_nodelay(true, INTERVAL as i32, 2, true);
         block.set_wndsize(self.window, self.window);
-        block.update(0);
+        if self.needs.contains(&Call::Update) {
+            block.update(0);
+        }
         block
     }
 }

@@ -1,0 +1,36 @@
+-- `words::under` meets its contract. What the calls ensure, put together. Assumes nothing.
+use Rattle.words.specs.Words.{under}
+use borrow.Author.Needs.{needs}
+use Rattle.words.proofs.under.Statement.{statement}
+use Rattle.words.proofs.under.Tie as tie
+
+both-requires : tie.Need-both-requires
+both-requires c κs = search needs
+
+both-requires-2 : tie.Need-both-requires-2
+both-requires-2 c κs = search needs
+
+both-requires-3 : tie.Need-both-requires-3
+both-requires-3 c κs = search needs
+
+both-requires-4 : tie.Need-both-requires-4
+both-requires-4 c κs = search needs
+
+both-requires-5 : tie.Need-both-requires-5
+both-requires-5 c κs = search needs
+
+returns : tie.Need-returns
+unfolding under
+returns c =
+    rw (c .both5 .ensures, c .before .both4 .ensures, c .before .before .both3 .ensures, c .before .before .before .both2 .ensures, c .before .before .before .before .both .ensures)
+
+pub under-spec : {M : Type 1} → statement M
+under-spec =
+    tie.close
+    (tie.spec
+    both-requires
+    both-requires-2
+    both-requires-3
+    both-requires-4
+    both-requires-5
+    returns)
