@@ -4,3 +4,5 @@ pub mod Steps
 pub mod Pushes
 pub mod Fronts
 pub mod Hands
+pub mod Exact
+pub mod Windows

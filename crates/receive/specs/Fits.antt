@@ -1,7 +1,7 @@
 -- "15 | BadPool | block or lent memory not well formed, or a size outside the limits", as far as the receive pool goes: what every call that is
 -- handed it tests; and the same facts as the calls below the test use them. Assumes nothing.
 use Prim.Native.Nat.{ℕ, _+_, _*_, _≤_, _<_}
-use mathlib.Core.Bool.{Bool, _&&_}
+use mathlib.Core.Bool.{Bool, true, _&&_}
 use mathlib.Core.Path.{_≡_}
 use mathlib.Core.List.{List}
 use lib.ListN.{length, take, getD, replicate}
@@ -10,8 +10,8 @@ use Rattle.slots.specs.Marks.{marked}
 use Rattle.slots.specs.Pool.{Lists, Pool, wellFormed}
 use Rattle.block.specs.declared.receiver.Receiver.{Receiver}
 use Rattle.block.specs.declared.Kcp.{Kcp}
-use Rattle.block.specs.Sizes.{receiveSizes}
-use Rattle.block.specs.WellFormed.{ownNumbers, receiveNumbers}
+use Rattle.block.specs.Sizes.{receiveSizes, PoolSizes}
+use Rattle.block.specs.WellFormed.{ownNumbers, receiveNumbers, OwnNumbers}
 use Rattle.receiving.specs.Rules.{rises, WellFormed}
 use Rattle.receive.specs.Memory.{seen, inUse, heldNumbers}
 
@@ -22,6 +22,14 @@ receiveFits k p =
     && (ownNumbers k
     && (receiveNumbers (length (p .order)) (k .receiver)
     && (wellFormed 2 (inUse (k .receiver)) p && rises (k .receiver .«rcv_nxt») 0 (k .receiver .largest) (heldNumbers (k .receiver) p))))
+
+-- the same as facts; that the test is true exactly when they hold: proofs/Exact
+pub record ReceiveFits (k : Kcp) (p : Lists) : Type 0 where
+  pub sizes : PoolSizes 256 1024 2 (length (p .order)) (length (p .records)) (length (p .room))
+  pub own : OwnNumbers k
+  pub twice : 2 * k .receiver .largest ≤ length (p .order)
+  pub pool : Pool 2 (inUse (k .receiver)) p
+  pub rising : rises (k .receiver .«rcv_nxt») 0 (k .receiver .largest) (heldNumbers (k .receiver) p) ≡ true
 
 -- what `move_buf` and peeksize need of it: the entries in use name records, and lengths that fit
 pub record Lies (r : Receiver) (order records : List ℕ) : Type 0 where

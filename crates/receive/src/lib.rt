@@ -212,16 +212,7 @@ pub fn push(
         };
     }
     Pushed {
-        receiver: parse_data(
-            receiver,
-            order,
-            records,
-            room,
-            marks,
-            sn,
-            frg,
-            payload,
-        ),
+        receiver: parse_data(receiver, order, records, room, marks, sn, frg, payload),
         acklist: list,
         skipped: 0,
     }
@@ -333,11 +324,7 @@ pub fn recv(
 fn tell_bit(bits: u32) -> u32
     ensures { λ r. ⌜ r ≡ tellBit bits ⌝ }
 {
-    if bits / 2 % 2 == 0 {
-        bits + 2
-    } else {
-        bits
-    }
+    if bits / 2 % 2 == 0 { bits + 2 } else { bits }
 }
 
 // The probe once a tell is to go out.
