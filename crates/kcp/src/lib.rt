@@ -72,13 +72,7 @@ pub fn peeksize(block: Kcp, order: &[u32], records: &[u32], room: &[u8]) -> Leng
 }
 
 // Hands the message at the front of the queue out into `buf`, and answers its length. Refused by 15, 5, 6 or 7, which leaves all.
-pub fn recv(
-    block: Kcp,
-    order: &mut [u32],
-    records: &[u32],
-    room: &[u8],
-    buf: &mut [u8],
-) -> Received
+pub fn recv(block: Kcp, order: &mut [u32], records: &[u32], room: &[u8], buf: &mut [u8]) -> Received
     ensures { λ r. ⌜ Receives block (lists (now (order .entry)) (now (records .entry)) (now (room .entry))) (now (buf .entry))
         (record { block = r .block; answer = r .answer; pool = lists (now (order .exit)) (now (records .entry)) (now (room .entry)); buf = now (buf .exit) }) ⌝ }
 {

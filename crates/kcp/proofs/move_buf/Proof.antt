@@ -1,39 +1,29 @@
-use mathlib.Core.Path.{sym, _∙_}
-use borrow.Author.Tests.{not-true, not-false}
+-- `kcp::move_buf` meets its contract. Assumes nothing.
+use mathlib.Core.Path.{_∙_}
+use borrow.Author.Tests.{not-false}
 use Rattle.slots.specs.Pool.{lists}
 use Rattle.receive.proofs.Steps.{pool-lies, move-any}
 use Rattle.kcp.proofs.Outcomes.{unmoved, moved}
 use borrow.Author.Needs.{needs}
 use Rattle.kcp.proofs.move_buf.Statement.{statement}
 use Rattle.kcp.proofs.move_buf.Tie as tie
-use Rattle.kcp.proofs.move_buf.Reads as reads
-use Rattle.kcp.proofs.move_buf.Lts as lts
-use Rattle.block.proofs.Kcp.with_receiver.Reads as with-receiver-reads
-use Rattle.kcp.proofs.bad_pool.Reads as bad-pool-reads
-use Rattle.receive.proofs.move_buf.Reads as move-buf-reads
-use Rattle.receive.proofs.well_formed.Reads as well-formed-reads
 
--- src/lib.rt:51:59
 slice-aggregate-well-formed : tie.Need-slice-aggregate-well-formed
 slice-aggregate-well-formed c = search needs
 
--- src/lib.rt:51:9
 well-formed-requires : tie.Need-well-formed-requires
 well-formed-requires c κs = search needs
 
--- src/lib.rt:52:9
 bad-pool-requires : tie.Need-bad-pool-requires
 bad-pool-requires c κs = search needs
 
--- src/lib.rt:52:9
 returns : tie.Need-returns
 returns c =
     let s = c .before .before .before .before .before .before .before .before in
     let a = s .args in
     let p = lists (a .order .now) (a .records .now) (a .room .now) in
-    unmoved (a .block) p (sym (c .before .before .before .well-formed .ensures .0) ∙ not-true _ (c .before .if1 .taken)) _ (c .bad-pool .ensures)
+    unmoved (a .block) p (c .before .before .before .well-formed .ensures .0) (c .before .if1 .taken) _ (c .bad-pool .ensures)
 
--- src/lib.rt:54:9
 move-buf-requires : tie.Need-move-buf-requires
 move-buf-requires c κs =
     let s = c .before .before .before .before .before .before .before in
@@ -41,17 +31,15 @@ move-buf-requires c κs =
     let p = lists (a .order .now) (a .records .now) (a .room .now) in
     pool-lies (a .block .receiver) p (c .before .before .well-formed .ensures .1 .0 (not-false _ (c .if1 .left)) .pool)
 
--- src/lib.rt:56:16
 with-receiver-requires : tie.Need-with-receiver-requires
 with-receiver-requires c κs = search needs
 
--- src/lib.rt:46:1
 returns-2 : tie.Need-returns-2
 returns-2 c =
     let s = c .before .before .before .before .before .before .before .before .before in
     let a = s .args in
     let p = lists (a .order .now) (a .records .now) (a .room .now) in
-    moved (a .block) p (sym (c .before .before .before .before .well-formed .ensures .0) ∙ not-false _ (c .before .before .if1 .left)) _ _ (c .before .move-buf .ensures ∙ move-any (a .block .receiver) (p .order) (p .records) (p .room)) (c .with-receiver .ensures)
+    moved (a .block) p (c .before .before .before .before .well-formed .ensures .0) (c .before .before .if1 .left) _ _ (c .before .move-buf .ensures ∙ move-any (a .block .receiver) (p .order) (p .records) (p .room)) (c .with-receiver .ensures)
 
 pub move-buf-spec : {M : Type 1} → statement M
 move-buf-spec =

@@ -1,5 +1,5 @@
-use mathlib.Core.Path.{sym, _∙_}
-use borrow.Author.Tests.{not-true, not-false}
+-- `kcp::peeksize` meets its contract. Assumes nothing.
+use borrow.Author.Tests.{not-false}
 use Rattle.slots.specs.Pool.{lists}
 use Rattle.receive.specs.Memory.{peekAt}
 use Rattle.receive.proofs.Steps.{pool-lies}
@@ -7,28 +7,20 @@ use Rattle.kcp.proofs.Outcomes.{unpeeked, peeks}
 use borrow.Author.Needs.{needs}
 use Rattle.kcp.proofs.peeksize.Statement.{statement}
 use Rattle.kcp.proofs.peeksize.Tie as tie
-use Rattle.kcp.proofs.peeksize.Reads as reads
-use Rattle.kcp.proofs.peeksize.Lts as lts
-use Rattle.receive.proofs.peeksize.Reads as peeksize-reads
-use Rattle.receive.proofs.well_formed.Reads as well-formed-reads
 
--- src/lib.rt:66:59
 slice-aggregate-well-formed : tie.Need-slice-aggregate-well-formed
 slice-aggregate-well-formed c = search needs
 
--- src/lib.rt:66:9
 well-formed-requires : tie.Need-well-formed-requires
 well-formed-requires c κs = search needs
 
--- src/lib.rt:67:9
 returns : tie.Need-returns
 returns c =
     let s = c .before .before .before .before .before .before .before in
     let a = s .args in
     let p = lists (a .order .now) (a .records .now) (a .room .now) in
-    unpeeked (a .block) p (sym (c .before .before .well-formed .ensures .0) ∙ not-true _ (c .if1 .taken))
+    unpeeked (a .block) p (c .before .before .well-formed .ensures .0) (c .if1 .taken)
 
--- src/lib.rt:71:5
 peeksize-requires : tie.Need-peeksize-requires
 peeksize-requires c κs =
     let s = c .before .before .before .before .before .before .before in
@@ -36,14 +28,13 @@ peeksize-requires c κs =
     let p = lists (a .order .now) (a .records .now) (a .room .now) in
     pool-lies (a .block .receiver) p (c .before .before .well-formed .ensures .1 .0 (not-false _ (c .if1 .left)) .pool)
 
--- src/lib.rt:62:1
 returns-2 : tie.Need-returns-2
 unfolding peekAt
 returns-2 c =
     let s = c .before .before .before .before .before .before .before .before in
     let a = s .args in
     let p = lists (a .order .now) (a .records .now) (a .room .now) in
-    peeks (a .block) p (sym (c .before .before .before .well-formed .ensures .0) ∙ not-false _ (c .before .if1 .left)) _ (c .peeksize .ensures)
+    peeks (a .block) p (c .before .before .before .well-formed .ensures .0) (c .before .if1 .left) _ (c .peeksize .ensures)
 
 pub peeksize-spec : {M : Type 1} → statement M
 peeksize-spec =

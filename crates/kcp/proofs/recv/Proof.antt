@@ -1,73 +1,51 @@
-use mathlib.Core.Path.{sym, _∙_}
-use borrow.Author.Tests.{not-true, not-false}
+-- `kcp::recv` meets its contract. Assumes nothing.
+use borrow.Author.Tests.{not-false}
 use Rattle.slots.specs.Pool.{lists}
 use Rattle.kcp.proofs.Outcomes.{unreceived, received}
 use borrow.Author.Needs.{needs}
 use Rattle.kcp.proofs.recv.Statement.{statement}
 use Rattle.kcp.proofs.recv.Tie as tie
-use Rattle.kcp.proofs.recv.Reads as reads
-use Rattle.kcp.proofs.recv.Lts as lts
-use Rattle.block.proofs.Kcp.with_probe.Reads as with-probe-reads
-use Rattle.block.proofs.Kcp.with_receiver.Reads as with-receiver-reads
-use Rattle.receive.proofs.recovered.Reads as recovered-reads
-use Rattle.receive.proofs.recv.Reads as recv-reads
-use Rattle.receive.proofs.well_formed.Reads as well-formed-reads
 
--- src/lib.rt:86:59
 slice-aggregate-well-formed : tie.Need-slice-aggregate-well-formed
 slice-aggregate-well-formed c = search needs
 
--- src/lib.rt:86:9
 well-formed-requires : tie.Need-well-formed-requires
 well-formed-requires c κs = search needs
 
--- src/lib.rt:87:9
 same-length : tie.Need-same-length
 same-length c = search needs
 
--- src/lib.rt:87:9
 returns : tie.Need-returns
 returns c =
     let s = c .before .before .before .before .before .before .before .before .before in
     let a = s .args in
     let p = lists (a .order .now) (a .records .now) (a .room .now) in
-    unreceived (a .block) p (sym (c .before .before .well-formed .ensures .0) ∙ not-true _ (c .if1 .taken)) (a .buf .now)
+    unreceived (a .block) p (c .before .before .well-formed .ensures .0) (c .if1 .taken) (a .buf .now)
 
--- src/lib.rt:95:9
 recv-requires : tie.Need-recv-requires
-recv-requires c κs =
-    let s = c .before .before .before .before .before .before .before .before .before .before .before .before in
-    let a = s .args in
-    let p = lists (a .order .now) (a .records .now) (a .room .now) in
-    c .before .before .before .before .before .well-formed .ensures .1 .0 (not-false _ (c .before .before .before .if1 .left)) .pool
+recv-requires c κs = c .before .before .before .before .before .well-formed .ensures .1 .0 (not-false _ (c .before .before .before .if1 .left)) .pool
 
--- src/lib.rt:98:9
 recovered-requires : tie.Need-recovered-requires
 recovered-requires c κs = search needs
 
--- src/lib.rt:100:16
 with-receiver-requires : tie.Need-with-receiver-requires
 with-receiver-requires c κs = search needs
 
--- src/lib.rt:100:16
 with-probe-requires : tie.Need-with-probe-requires
 with-probe-requires c κs = search needs
 
--- src/lib.rt:75:1
 same-length-2 : tie.Need-same-length-2
 same-length-2 c = search needs
 
--- src/lib.rt:75:1
 same-length-3 : tie.Need-same-length-3
 same-length-3 c = search needs
 
--- src/lib.rt:75:1
 returns-2 : tie.Need-returns-2
 returns-2 c =
     let s = c .before .before .before .before .before .before .before .before .before .before .before .before .before .before .before .before .before .before .before .before .before in
     let a = s .args in
     let p = lists (a .order .now) (a .records .now) (a .room .now) in
-    received (a .block) p (sym (c .before .before .before .before .before .before .before .before .before .before .before .before .before .before .well-formed .ensures .0) ∙ not-false _ (c .before .before .before .before .before .before .before .before .before .before .before .before .if1 .left)) (a .buf .now) _ _ _ (c .before .before .before .before .before .before .before .before .recv .ensures) _ (c .before .before .recovered .ensures) _ _ (c .before .with-receiver .ensures) (c .with-probe .ensures)
+    received (a .block) p (c .before .before .before .before .before .before .before .before .before .before .before .before .before .before .well-formed .ensures .0) (c .before .before .before .before .before .before .before .before .before .before .before .before .if1 .left) (a .buf .now) _ _ _ (c .before .before .before .before .before .before .before .before .recv .ensures) _ (c .before .before .recovered .ensures) _ _ (c .before .with-receiver .ensures) (c .with-probe .ensures)
 
 pub recv-spec : {M : Type 1} → statement M
 recv-spec =
