@@ -1,22 +1,20 @@
 -- What every call keeps of the block and its lent memory, so that no call is refused by 15; and for each call the event of the rules that it
 -- is. A call that leaves the receive side as it is, is the event of a window set to 0, which sets none. Assumes nothing.
-use Prim.Native.Nat.{ℕ, _+_, _*_, _≤_, _<_, _^_}
+use Prim.Native.Nat.{ℕ, _+_, _≤_, _<_, _^_}
 use native.Mathlib.Omega.{arith}
 use mathlib.Core.Path.{_≡_, refl, sym, ap, _∙_, subst}
-use mathlib.Core.Bool.{Bool, true, false, cond, not, _&&_}
+use mathlib.Core.Bool.{Bool, true, false, not}
 use mathlib.Core.List.{List, [], _∷_}
-use lib.ListN.{length}
+use lib.ListN.{length, take}
 use lib.Dec.{leb}
-use lib.IntN.{ℤ}
 use borrow.Author.Tests.{leb-true, leb-false, not-true}
 use Rattle.serial.specs.Branch.{pick, pick-true, pick-false}
 use Rattle.serial.specs.Window.{acknowledged}
-use Rattle.lent.specs.Records.{stored}
+use Rattle.lent.specs.Records.{put, stored}
 use Rattle.lent.proofs.Rows.{stored-length}
 use Rattle.slots.specs.Pool.{Lists, Pool}
 use Rattle.block.specs.declared.Kcp.{Kcp}
 use Rattle.block.specs.declared.set.Set.{Set}
-use Rattle.block.specs.declared.settings.Settings.{Settings}
 use Rattle.block.specs.declared.probe.Probe.{Probe}
 use Rattle.block.specs.declared.acklist.AckList.{AckList}
 use Rattle.block.specs.Parts.{withReceiver}
@@ -24,14 +22,12 @@ use Rattle.block.specs.Sizes.{PoolSizes, AckSizes, pairs, mtuSize}
 use Rattle.block.specs.WellFormed.{SettingsFit, ProbeFits}
 use Rattle.block.specs.Setters.{setMtu}
 use Rattle.block.proofs.Exact.{exactly-within, exactly-le, ack-sizes}
-use Rattle.receiving.specs.Rules.{Segment, listed, tooLarge, tells}
-use Rattle.receiving.specs.History.{Event, eventPush, eventRecv, eventMove, eventWindow}
-use Rattle.receiving.specs.History.{leaves as ruleLeaves, takes as ruleTakes, hands as ruleHands}
-use Rattle.receiving.specs.Rules.{setWindow}
+use Rattle.receiving.specs.Rules.{Segment, Answer, refused, gives, payloads, joined, listed, given, tooLarge, tells, setWindow}
+use Rattle.receiving.specs.History.{Event, eventPush, eventRecv, eventMove, eventWindow, leaves as ruleLeaves, takes as ruleTakes, hands as ruleHands}
 use Rattle.receiving.proofs.Laws.{and-right}
-use Rattle.receive.specs.Memory.{Side, seen, told, fullAt, pushAt, acksAt, listAt, recvAt, answerAt, moveBufAt, probeAt, windowsAt}
+use Rattle.receive.specs.Memory.{Side, messageAt, bytesAt, fullAt, pushAt, acksAt, listAt, recvAt, answerAt, moveBufAt, probeAt, windowsAt}
 use Rattle.receive.specs.Fits.{receiveFits, Good}
-use Rattle.receive.proofs.Seen.{seen-push, push-good, push-length, seen-recv, recv-good, handed-length, seen-moveBuf, move-good}
+use Rattle.receive.proofs.Seen.{message-queued, seen-answer, seen-message, seen-bytes, seen-push, push-good, push-length, seen-recv, recv-good, handed-length, seen-moveBuf, move-good}
 use Rattle.receive.proofs.Windows.{seen-window, window-good}
 use Rattle.receive.proofs.Exact.{exactly, fits-of, good-receiver}
 use Rattle.kcp.specs.Calls.{moveBufOf, recvOf, setWndsizeOf, ackFits, pushFits, pushOf, pushed, PushOut, RecvOut, handedOver}
@@ -43,6 +39,7 @@ pub record AcksFit (list : AckList) (acks waiting : List ℕ) : Type 0 where
   pub sizes : AckSizes (length acks) (length waiting)
   pub few : list .acks ≤ pairs (length acks)
 
+-- all that the tests for 15 ask of the block and its lent memory, but for the send pool
 pub record Fine (m : Memory) : Type 0 where
   pub good : Good (m .block .receiver) (m .pool)
   pub sizes : PoolSizes 256 1024 2 (length (m .pool .order)) (length (m .pool .records)) (length (m .pool .room))
@@ -209,14 +206,26 @@ module _ (m : Memory) (f : Fine m) where
       handing = refl;
     }
 
+    -- the buffer has the payloads of the segments handed out, and behind them what stood there
+    pub received-bytes : recvOf k (m .pool) buf .buf ≡ put buf 0 (joined (payloads (hands (callRecv buf) m)))
+    unfolding recvOf hands bytesAt given put joined
+    received-bytes =
+        ap (λ (o : RecvOut). o .buf) (pick-true _ _ (receive-fits m f))
+        ∙ go (answerAt (length buf) (k .receiver) (m .pool))
+        ∙ ap (λ (a : Answer). put buf 0 (joined (payloads (take (given a (seenIn m)) (seenIn m .queue))))) (sym (seen-answer (k .receiver) (m .pool) (f .good .pool) (length buf)))
+      where
+        go : (a : Answer) → bytesAt a (k .receiver) (m .pool) buf ≡ put buf 0 (joined (payloads (take (given a (seenIn m)) (seenIn m .queue))))
+        go (refused n) = refl
+        go (gives n) =
+            let count = seen-message (k .receiver) (m .pool) (f .good .pool) in
+            let bytes = seen-bytes (k .receiver) (m .pool) (f .good .pool) (messageAt (k .receiver) (m .pool)) (message-queued (k .receiver) (m .pool) (f .good .pool)) in
+            ap (put buf 0) (bytes ∙ ap (λ (n : ℕ). joined (payloads (take n (seenIn m .queue)))) (sym count))
+
   -- ---- a push
 
   module _ (s : Segment) (small : s .sn < 2 ^ 32) (ts : ℕ) where
     abbrev full : Bool
     full = fullAt (k .acklist .acks) (m .acks)
-
-    abbrev into : Side
-    into = pushAt full (k .receiver) (m .pool) s
 
     -- one that no slot holds
     too-long : leb (length (s .payload)) 1476 ≡ false → Follows (callPush s small ts) m (eventWindow 0) m
@@ -235,7 +244,7 @@ module _ (m : Memory) (f : Fine m) where
             → AcksFit (record { acks = pick b (k .acklist .acks + 1) (k .acklist .acks); waiting = k .acklist .waiting }) (pick b (stored 2 (m .acks) (k .acklist .acks) 0 (s .sn ∷ ts ∷ [])) (m .acks)) (m .waiting)
         go true e =
             let space : k .acklist .acks < pairs (length (m .acks)) =
-              leb-false (pairs (length (m .acks))) (k .acklist .acks) (not-true full (and-right (acknowledged (k .receiver .«rcv_nxt») (k .receiver .«rcv_wnd») (s .sn)) (not full) e)) in
+            leb-false (pairs (length (m .acks))) (k .acklist .acks) (not-true full (and-right (acknowledged (k .receiver .«rcv_nxt») (k .receiver .«rcv_wnd») (s .sn)) (not full) e)) in
             let even = f .acks .sizes .paired in
             let same = stored-length 2 (m .acks) (k .acklist .acks) 0 (s .sn ∷ ts ∷ []) (omega arith) (omega arith) in
             record { bytes = f .acks .bytes; sizes = rw same (f .acks .sizes); few = rw same (omega arith) }
