@@ -15,7 +15,7 @@ use wire::Number;
 use wire::Put;
 
 pub mod calls; // the calls over a block's words
-pub mod receive;
+pub mod receiver; // those that are handed the receive pool
 
 // timediff(a, b).
 #[no_mangle]

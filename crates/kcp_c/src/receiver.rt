@@ -15,12 +15,7 @@ pub extern "C" fn kcp_move_buf(
 ) -> u32
     ensures { λ r. ⌜ Called (λ k. moveBufOf k (lists (now (order .entry)) (now (records .entry)) (now (room .entry)))) (now (words .entry)) r (now (words .exit)) ⌝ }
 {
-    host_receive::move_buf(
-        words,
-        order,
-        records,
-        room,
-    )
+    host_receive::move_buf(words, order, records, room)
 }
 
 // Sets both windows. 0, or 14 or 15.
@@ -35,14 +30,7 @@ pub extern "C" fn kcp_set_wndsize(
 ) -> u32
     ensures { λ r. ⌜ Called (λ k. setWndsizeOf k (lists (now (order .entry)) (now (records .entry)) (now (room .entry))) sndwnd rcvwnd) (now (words .entry)) r (now (words .exit)) ⌝ }
 {
-    host_receive::set_wndsize(
-        words,
-        sndwnd,
-        rcvwnd,
-        order,
-        records,
-        room,
-    )
+    host_receive::set_wndsize(words, sndwnd, rcvwnd, order, records, room)
 }
 
 // The length of the message at the front of the queue, put into `length`. 0, or 5, 6 or 15, which leave it.
@@ -56,13 +44,7 @@ pub extern "C" fn kcp_peeksize(
 ) -> u32
     ensures { λ r. ⌜ WordsPeeked (lists (now (order .entry)) (now (records .entry)) (now (room .entry))) (now (words .entry)) (now (length .entry)) r (now (length .exit)) ⌝ }
 {
-    host_receive::peeksize(
-        words,
-        order,
-        records,
-        room,
-        length,
-    )
+    host_receive::peeksize(words, order, records, room, length)
 }
 
 // Hands the message at the front of the queue out into `buf`, and puts its length into `length`. 0, or 5, 6, 7 or 15, which leave all.
@@ -78,14 +60,7 @@ pub extern "C" fn kcp_recv(
     ensures { λ r. ⌜ WordsReceived (lists (now (order .entry)) (now (records .entry)) (now (room .entry))) (now (buf .entry)) (now (words .entry)) (now (length .entry)) r
         (lists (now (order .exit)) (now (records .entry)) (now (room .entry))) (now (buf .exit)) (now (words .exit)) (now (length .exit)) ⌝ }
 {
-    host_receive::recv(
-        words,
-        order,
-        records,
-        room,
-        buf,
-        length,
-    )
+    host_receive::recv(words, order, records, room, buf, length)
 }
 
 // A push alone; the number of pushes skipped, 0 or 1, is put into `skipped`. 0, or 11 or 15, which leave all else.
