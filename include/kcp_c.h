@@ -86,10 +86,33 @@ uint32_t kcp_input_conv(uint32_t *words, size_t count);
 /* the block's conv, while kcp_set_conv sets that of a header: 0, or 15 */
 uint32_t kcp_set_block_conv(uint32_t *words, size_t count, uint32_t conv);
 
-/* Aids to measure a copy into a slot of a room and out of it, which will go: whether the copy fitted and was made. One that does
-   not fit leaves all as it was. */
-bool kcp_payload_put(uint8_t *room, size_t bytes, size_t slot, const uint8_t *src, size_t len);
-bool kcp_payload_get(const uint8_t *room, size_t bytes, size_t slot, uint8_t *out, size_t len);
+/* The calls that are handed the receive pool: its order (one number a slot), its records (two numbers a slot: sn and frg) and its room
+   (1,476 bytes a slot), of 256 to 1,024 slots. 15 (BadPool) where the block or the pool is not well formed; a refused call leaves all as
+   it was. */
+
+/* held segments move to the queue while the front is rcv_nxt and the queue is shorter than rcv_wnd: 0, or 15 */
+uint32_t kcp_move_buf(uint32_t *words, size_t count, const uint32_t *order, size_t slots, const uint32_t *records, size_t numbers,
+                      const uint8_t *room, size_t bytes);
+
+/* the length of the message at the front of the queue, put into length: 0, or 5 (RecvQueueEmpty), 6 (ExpectingFragment) or 15 */
+uint32_t kcp_peeksize(const uint32_t *words, size_t count, const uint32_t *order, size_t slots, const uint32_t *records,
+                      size_t numbers, const uint8_t *room, size_t bytes, size_t *length);
+
+/* that message, put into buf, and its length into length; bytes of buf past it stay: 0, or 5, 6, 7 (UserBufTooSmall) or 15 */
+uint32_t kcp_recv(uint32_t *words, size_t count, uint32_t *order, size_t slots, const uint32_t *records, size_t numbers,
+                  const uint8_t *room, size_t bytes, uint8_t *buf, size_t len, size_t *length);
+
+/* both windows, a receive window raised to 128; 0 leaves a window: 0, or 14 (WindowTooLarge) where twice the receive window exceeds
+   the slots, which leaves both, or 15 */
+uint32_t kcp_set_wndsize(uint32_t *words, size_t count, uint16_t sndwnd, uint16_t rcvwnd, const uint32_t *order, size_t slots,
+                         const uint32_t *records, size_t numbers, const uint8_t *room, size_t bytes);
+
+/* A push alone, as input does it for each push of a datagram; here to be held against the Rust's, and to go when input comes. How many
+   pushes were skipped for want of room in the ack list, 0 or 1, is put into skipped: 0, or 11 (DatagramTooBig) where no slot holds the
+   payload, or 15. */
+uint32_t kcp_push(uint32_t *words, size_t count, uint32_t *order, size_t slots, uint32_t *records, size_t numbers, uint8_t *room,
+                  size_t bytes, uint32_t *acks, size_t acks_numbers, const uint8_t *waiting, size_t waiting_bytes, uint32_t sn,
+                  uint8_t frg, uint32_t ts, const uint8_t *payload, size_t len, uint32_t *skipped);
 
 #ifdef __cplusplus
 }

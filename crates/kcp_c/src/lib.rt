@@ -1,14 +1,13 @@
 // The functions that a host in C or Rust links. A slice is a pointer and a length; a place for a number is a pointer to it.
 ghost use mathlib.Core.Path.{_≡_};
 ghost use Prim.Native.Nat.{min, max};
-ghost use lib.ListN.{length};
 ghost use Rattle.serial.specs.Wrap.{timediff};
 ghost use Rattle.wire.specs.Header.{convOf, snOf, headerAt, headerBytes};
 ghost use Rattle.wire.specs.Helpers.{got, putOf, numberOfPut, withConv};
 ghost use Rattle.estimator.specs.Estimate.{measured};
 ghost use Rattle.slots.specs.Pool.{lists};
 ghost use Rattle.kcp_c.specs.Told.{Told};
-ghost use Rattle.kcp_c.specs.Pools.{PoolTold, payloadFits, payloadPut, payloadGot};
+ghost use Rattle.kcp_c.specs.Pools.{PoolTold};
 ghost use Rattle.kcp_c.specs.Numbers.{header, headerNumbers, estimator, estimatorNumbers};
 use estimator::Estimator;
 use wire::Header;
@@ -16,6 +15,7 @@ use wire::Number;
 use wire::Put;
 
 pub mod calls; // the calls over a block's words
+pub mod receiver; // those that are handed the receive pool
 
 // timediff(a, b).
 #[no_mangle]
@@ -154,37 +154,4 @@ pub extern "C" fn kcp_pool_test(
         return 0;
     }
     15
-}
-
-// Copies src into a slot's bytes, if it fits, and else leaves all; answers whether it did. To measure the copy.
-#[no_mangle]
-pub extern "C" fn kcp_payload_put(room: &mut [u8], slot: usize, src: &[u8]) -> bool
-    ensures { λ r. ⌜ r ≡ payloadFits (now (room .entry)) slot (length (now (src .entry))) ⌝ }
-    ensures { λ _. ⌜ now (room .exit) ≡ payloadPut (now (room .entry)) slot (now (src .entry)) ⌝ }
-{
-    if src.len() > 1476 {
-        return false;
-    }
-    if slot >= room.len() / 1476 {
-        return false;
-    }
-    lent::put_payload(room, slot, 0, src);
-    true
-}
-
-// Copies a slot's bytes into the whole of out, if there are as many, and else leaves all; answers whether it did. To measure the copy.
-#[no_mangle]
-pub extern "C" fn kcp_payload_get(room: &[u8], slot: usize, out: &mut [u8]) -> bool
-    ensures { λ r. ⌜ r ≡ payloadFits (now (room .entry)) slot (length (now (out .entry))) ⌝ }
-    ensures { λ _. ⌜ now (out .exit) ≡ payloadGot (now (room .entry)) slot (now (out .entry)) ⌝ }
-{
-    let n = out.len();
-    if n > 1476 {
-        return false;
-    }
-    if slot >= room.len() / 1476 {
-        return false;
-    }
-    lent::get_payload(room, slot, n, out, 0);
-    true
 }

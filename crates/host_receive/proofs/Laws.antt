@@ -1,0 +1,115 @@
+-- What a host is told, by whether its words are a block, and that it is told one thing only. Assumes nothing.
+use Prim.Native.Nat.{ℕ}
+use mathlib.Core.Path.{_≡_, refl, sym, ap, _∙_}
+use mathlib.Core.Bool.{Bool, true, false}
+use mathlib.Core.List.{List}
+use Rattle.serial.specs.Branch.{pick, pick-true, pick-false}
+use Rattle.slots.specs.Pool.{Lists}
+use Rattle.block.specs.declared.Kcp.{Kcp}
+use Rattle.block.specs.declared.set.Set.{Set}
+use Rattle.block.specs.Refusals.{numberOfAnswer}
+use Rattle.words.specs.declared.Found.{Found}
+use Rattle.words.specs.declared.Found.the-variants.{Block as Held, NoBlock}
+use Rattle.words.specs.Words.{wordsOf, blockOf, isBlock, readOf}
+use Rattle.words.proofs.Reading.{found-block, found-none}
+use Rattle.host.specs.Words.{setWords}
+use Rattle.receiving.specs.Rules.{Segment}
+use Rattle.receive.specs.declared.Length.{Length}
+use Rattle.receive.specs.Memory.{numberOfLength}
+use Rattle.kcp.specs.Calls.{peeksizeOf, RecvOut, recvOf, PushOut, pushOf}
+use Rattle.host_receive.specs.Words.{Called, lengthIn, WordsPeeked, WordsReceived, WordsPushed}
+
+module _ (l : List ℕ) {x : Found} (e : x ≡ readOf l) where
+  -- the words are no block
+  module _ (h : x ≡ NoBlock) where
+    none : isBlock l ≡ false
+    none = found-none l e h
+
+    words-stay : (f : Kcp → Kcp) → l ≡ setWords f l
+    unfolding setWords
+    words-stay f = sym (pick-false _ _ none)
+
+    pub called-none : (f : Kcp → Set) → Called f l 15 l
+    called-none f = record { refusal = sym (pick-false _ _ none); words = words-stay (λ k. f k .block) }
+
+    pub peeked-none : (p : Lists) (n : ℕ) → WordsPeeked p l n 15 n
+    peeked-none p n = record { refusal = sym (pick-false _ _ none); length = sym (pick-false _ _ none) }
+
+    pub received-none : (p : Lists) (buf : List ℕ) (n : ℕ) → WordsReceived p buf l n 15 p buf l n
+    received-none p buf n = record {
+      refusal = sym (pick-false _ _ none);
+      words = words-stay (λ k. recvOf k p buf .block);
+      pool = sym (pick-false _ _ none);
+      buffer = sym (pick-false _ _ none);
+      length = sym (pick-false _ _ none);
+    }
+
+    pub pushed-none : (p : Lists) (acks waiting : List ℕ) (s : Segment) (ts n : ℕ) → WordsPushed p acks waiting s ts l n 15 p acks l n
+    pushed-none p acks waiting s ts n = record {
+      refusal = sym (pick-false _ _ none);
+      words = words-stay (λ k. pushOf k p acks waiting s ts .block);
+      pool = sym (pick-false _ _ none);
+      list = sym (pick-false _ _ none);
+      skips = sym (pick-false _ _ none);
+    }
+
+  -- they are the block b
+  module _ {b : Kcp} (h : x ≡ Held b) where
+    held : (isBlock l ≡ true) × (b ≡ blockOf l)
+    held = found-block l e h
+
+    -- what a function of the block gives
+    gives : {A : Type 0} (f : Kcp → A) (z : A) → f b ≡ pick (isBlock l) (f (blockOf l)) z
+    gives f z = ap f (held .1) ∙ sym (pick-true _ _ (held .0))
+
+    words-set : (f : Kcp → Kcp) {a : List ℕ} → a ≡ wordsOf (f b) → a ≡ setWords f l
+    unfolding setWords
+    words-set f w = w ∙ gives (λ k. wordsOf (f k)) l
+
+    pub called : (f : Kcp → Set) {s : Set} {r : ℕ} {a : List ℕ} → s ≡ f b → a ≡ wordsOf (s .block) → r ≡ numberOfAnswer (s .answer) → Called f l r a
+    called f q w n = record {
+      refusal = n ∙ ap (λ (s : Set). numberOfAnswer (s .answer)) q ∙ gives (λ k. numberOfAnswer (f k .answer)) 15;
+      words = words-set (λ k. f k .block) (w ∙ ap (λ (s : Set). wordsOf (s .block)) q);
+    }
+
+    pub peeked : (p : Lists) (n : ℕ) {a : Length} {r n′ : ℕ} → a ≡ peeksizeOf b p → r ≡ numberOfLength a → n′ ≡ lengthIn n a → WordsPeeked p l n r n′
+    peeked p n q c d = record {
+      refusal = c ∙ ap numberOfLength q ∙ gives (λ k. numberOfLength (peeksizeOf k p)) 15;
+      length = d ∙ ap (lengthIn n) q ∙ gives (λ k. lengthIn n (peeksizeOf k p)) n;
+    }
+
+    pub received : (p : Lists) (buf : List ℕ) (n : ℕ) (o : RecvOut) {r n′ : ℕ} {a : List ℕ} → o ≡ recvOf b p buf
+        → a ≡ wordsOf (o .block) → r ≡ numberOfLength (o .answer) → n′ ≡ lengthIn n (o .answer) → WordsReceived p buf l n r (o .pool) (o .buf) a n′
+    received p buf n o q w c d = record {
+      refusal = c ∙ ap (λ (y : RecvOut). numberOfLength (y .answer)) q ∙ gives (λ k. numberOfLength (recvOf k p buf .answer)) 15;
+      words = words-set (λ k. recvOf k p buf .block) (w ∙ ap (λ (y : RecvOut). wordsOf (y .block)) q);
+      pool = ap (λ (y : RecvOut). y .pool) q ∙ gives (λ k. recvOf k p buf .pool) p;
+      buffer = ap (λ (y : RecvOut). y .buf) q ∙ gives (λ k. recvOf k p buf .buf) buf;
+      length = d ∙ ap (λ (y : RecvOut). lengthIn n (y .answer)) q ∙ gives (λ k. lengthIn n (recvOf k p buf .answer)) n;
+    }
+
+    pub pushed : (p : Lists) (acks waiting : List ℕ) (s : Segment) (ts n : ℕ) (o : PushOut) {r n′ : ℕ} {a : List ℕ} → o ≡ pushOf b p acks waiting s ts
+        → a ≡ wordsOf (o .block) → r ≡ numberOfAnswer (o .answer) → n′ ≡ o .skipped → WordsPushed p acks waiting s ts l n r (o .pool) (o .acks) a n′
+    pushed p acks waiting s ts n o q w c d = record {
+      refusal = c ∙ ap (λ (y : PushOut). numberOfAnswer (y .answer)) q ∙ gives (λ k. numberOfAnswer (pushOf k p acks waiting s ts .answer)) 15;
+      words = words-set (λ k. pushOf k p acks waiting s ts .block) (w ∙ ap (λ (y : PushOut). wordsOf (y .block)) q);
+      pool = ap (λ (y : PushOut). y .pool) q ∙ gives (λ k. pushOf k p acks waiting s ts .pool) p;
+      list = ap (λ (y : PushOut). y .acks) q ∙ gives (λ k. pushOf k p acks waiting s ts .acks) acks;
+      skips = d ∙ ap (λ (y : PushOut). y .skipped) q ∙ gives (λ k. pushOf k p acks waiting s ts .skipped) n;
+    }
+
+-- ---- any two outcomes that meet a promise coincide
+
+pub called-one : {f : Kcp → Set} {l a a′ : List ℕ} {r r′ : ℕ} → Called f l r a → Called f l r′ a′ → (r ≡ r′) × (a ≡ a′)
+called-one u v = (u .refusal ∙ sym (v .refusal), u .words ∙ sym (v .words))
+
+pub peeked-one : {p : Lists} {l : List ℕ} {n r r′ a a′ : ℕ} → WordsPeeked p l n r a → WordsPeeked p l n r′ a′ → (r ≡ r′) × (a ≡ a′)
+peeked-one u v = (u .refusal ∙ sym (v .refusal), u .length ∙ sym (v .length))
+
+module _ {p q q′ : Lists} {buf l b b′ a a′ : List ℕ} {n r r′ m m′ : ℕ} where
+  pub received-one : WordsReceived p buf l n r q b a m → WordsReceived p buf l n r′ q′ b′ a′ m′ → (r ≡ r′) × (q ≡ q′) × (b ≡ b′) × (a ≡ a′) × (m ≡ m′)
+  received-one u v = (u .refusal ∙ sym (v .refusal), u .pool ∙ sym (v .pool), u .buffer ∙ sym (v .buffer), u .words ∙ sym (v .words), u .length ∙ sym (v .length))
+
+module _ {p q q′ : Lists} {acks waiting l b b′ a a′ : List ℕ} {s : Segment} {ts n r r′ m m′ : ℕ} where
+  pub pushed-one : WordsPushed p acks waiting s ts l n r q b a m → WordsPushed p acks waiting s ts l n r′ q′ b′ a′ m′ → (r ≡ r′) × (q ≡ q′) × (b ≡ b′) × (a ≡ a′) × (m ≡ m′)
+  pushed-one u v = (u .refusal ∙ sym (v .refusal), u .pool ∙ sym (v .pool), u .list ∙ sym (v .list), u .words ∙ sym (v .words), u .skips ∙ sym (v .skips))

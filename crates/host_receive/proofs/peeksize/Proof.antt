@@ -1,0 +1,49 @@
+-- `host_receive::peeksize` meets its contract: the law of words that are no block, and of those that are. Assumes nothing.
+use Rattle.slots.specs.Pool.{lists}
+use Rattle.host_receive.proofs.Laws.{peeked-none, peeked}
+use borrow.Author.Needs.{needs}
+use Rattle.host_receive.proofs.peeksize.Statement.{statement}
+use Rattle.host_receive.proofs.peeksize.Tie as tie
+
+read-requires : tie.Need-read-requires
+read-requires c κs = search needs
+
+enum-known-found : tie.Need-enum-known-found
+enum-known-found c = search needs
+
+enum-told : tie.Need-enum-told
+enum-told c = search needs
+
+returns : tie.Need-returns
+returns c =
+    let a = c .before .before .before .before .before .before .before .args in
+    let p = lists (a .order .now) (a .records .now) (a .room .now) in
+    peeked-none _ (c .before .before .read .ensures) (c .enum-told .given .1) p (a .length .now)
+
+peeksize-requires : tie.Need-peeksize-requires
+peeksize-requires c κs = search needs
+
+length-in-requires : tie.Need-length-in-requires
+length-in-requires c κs = search needs
+
+number-of-requires : tie.Need-number-of-requires
+number-of-requires c κs = search needs
+
+returns-2 : tie.Need-returns-2
+returns-2 c =
+    let a = c .before .before .before .before .before .before .before .before .before .before .before .before .args in
+    let p = lists (a .order .now) (a .records .now) (a .room .now) in
+    peeked _ (c .before .before .before .before .before .before .before .read .ensures) (c .before .before .before .before .before .found .given .1) p (a .length .now) (c .before .before .before .peeksize .ensures .is) (c .number-of .ensures) (c .before .length-in .ensures)
+
+pub peeksize-spec : {M : Type 1} → statement M
+peeksize-spec =
+    tie.close
+    (tie.spec
+    read-requires
+    enum-known-found
+    enum-told
+    returns
+    peeksize-requires
+    length-in-requires
+    number-of-requires
+    returns-2)

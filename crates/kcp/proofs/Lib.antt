@@ -1,0 +1,3 @@
+pub mod Outcomes
+pub mod Memory
+pub mod History

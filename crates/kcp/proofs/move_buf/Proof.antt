@@ -1,0 +1,54 @@
+-- `kcp::move_buf` meets its contract. Assumes nothing.
+use mathlib.Core.Path.{_∙_}
+use borrow.Author.Tests.{not-false}
+use Rattle.slots.specs.Pool.{lists}
+use Rattle.receive.proofs.Steps.{pool-lies, move-any}
+use Rattle.kcp.proofs.Outcomes.{unmoved, moved}
+use borrow.Author.Needs.{needs}
+use Rattle.kcp.proofs.move_buf.Statement.{statement}
+use Rattle.kcp.proofs.move_buf.Tie as tie
+
+slice-aggregate-well-formed : tie.Need-slice-aggregate-well-formed
+slice-aggregate-well-formed c = search needs
+
+well-formed-requires : tie.Need-well-formed-requires
+well-formed-requires c κs = search needs
+
+bad-pool-requires : tie.Need-bad-pool-requires
+bad-pool-requires c κs = search needs
+
+returns : tie.Need-returns
+returns c =
+    let s = c .before .before .before .before .before .before .before .before in
+    let a = s .args in
+    let p = lists (a .order .now) (a .records .now) (a .room .now) in
+    unmoved (a .block) p (c .before .before .before .well-formed .ensures .0) (c .before .if1 .taken) _ (c .bad-pool .ensures)
+
+move-buf-requires : tie.Need-move-buf-requires
+move-buf-requires c κs =
+    let s = c .before .before .before .before .before .before .before in
+    let a = s .args in
+    let p = lists (a .order .now) (a .records .now) (a .room .now) in
+    pool-lies (a .block .receiver) p (c .before .before .well-formed .ensures .1 .0 (not-false _ (c .if1 .left)) .pool)
+
+with-receiver-requires : tie.Need-with-receiver-requires
+with-receiver-requires c κs = search needs
+
+returns-2 : tie.Need-returns-2
+returns-2 c =
+    let s = c .before .before .before .before .before .before .before .before .before in
+    let a = s .args in
+    let p = lists (a .order .now) (a .records .now) (a .room .now) in
+    moved (a .block) p (c .before .before .before .before .well-formed .ensures .0) (c .before .before .if1 .left) _ _ (c .before .move-buf .ensures ∙ move-any (a .block .receiver) (p .order) (p .records) (p .room)) (c .with-receiver .ensures)
+
+pub move-buf-spec : {M : Type 1} → statement M
+move-buf-spec =
+    tie.close
+    (tie.spec
+    slice-aggregate-well-formed
+    well-formed-requires
+    bad-pool-requires
+    returns
+    move-buf-requires
+    with-receiver-requires
+    returns-2)

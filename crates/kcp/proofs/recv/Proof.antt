@@ -1,0 +1,64 @@
+-- `kcp::recv` meets its contract. Assumes nothing.
+use borrow.Author.Tests.{not-false}
+use Rattle.slots.specs.Pool.{lists}
+use Rattle.kcp.proofs.Outcomes.{unreceived, received}
+use borrow.Author.Needs.{needs}
+use Rattle.kcp.proofs.recv.Statement.{statement}
+use Rattle.kcp.proofs.recv.Tie as tie
+
+slice-aggregate-well-formed : tie.Need-slice-aggregate-well-formed
+slice-aggregate-well-formed c = search needs
+
+well-formed-requires : tie.Need-well-formed-requires
+well-formed-requires c κs = search needs
+
+same-length : tie.Need-same-length
+same-length c = search needs
+
+returns : tie.Need-returns
+returns c =
+    let s = c .before .before .before .before .before .before .before .before .before in
+    let a = s .args in
+    let p = lists (a .order .now) (a .records .now) (a .room .now) in
+    unreceived (a .block) p (c .before .before .well-formed .ensures .0) (c .if1 .taken) (a .buf .now)
+
+recv-requires : tie.Need-recv-requires
+recv-requires c κs = c .before .before .before .before .before .well-formed .ensures .1 .0 (not-false _ (c .before .before .before .if1 .left)) .pool
+
+recovered-requires : tie.Need-recovered-requires
+recovered-requires c κs = search needs
+
+with-receiver-requires : tie.Need-with-receiver-requires
+with-receiver-requires c κs = search needs
+
+with-probe-requires : tie.Need-with-probe-requires
+with-probe-requires c κs = search needs
+
+same-length-2 : tie.Need-same-length-2
+same-length-2 c = search needs
+
+same-length-3 : tie.Need-same-length-3
+same-length-3 c = search needs
+
+returns-2 : tie.Need-returns-2
+returns-2 c =
+    let s = c .before .before .before .before .before .before .before .before .before .before .before .before .before .before .before .before .before .before .before .before .before in
+    let a = s .args in
+    let p = lists (a .order .now) (a .records .now) (a .room .now) in
+    received (a .block) p (c .before .before .before .before .before .before .before .before .before .before .before .before .before .before .well-formed .ensures .0) (c .before .before .before .before .before .before .before .before .before .before .before .before .if1 .left) (a .buf .now) _ _ _ (c .before .before .before .before .before .before .before .before .recv .ensures) _ (c .before .before .recovered .ensures) _ _ (c .before .with-receiver .ensures) (c .with-probe .ensures)
+
+pub recv-spec : {M : Type 1} → statement M
+recv-spec =
+    tie.close
+    (tie.spec
+    slice-aggregate-well-formed
+    well-formed-requires
+    same-length
+    returns
+    recv-requires
+    recovered-requires
+    with-receiver-requires
+    with-probe-requires
+    same-length-2
+    same-length-3
+    returns-2)

@@ -1,0 +1,183 @@
+// The public calls: each tests the memory that it is handed, and then acts or changes nothing. No call requires anything of its caller.
+// A block is made by `Kcp::new` and `Kcp::new_stream`, and the setters and getters that are handed no memory are methods of it too (crate block).
+ghost use mathlib.Core.Path.{_≡_};
+ghost use mathlib.Core.Bool.{_&&_};
+ghost use Rattle.slots.specs.Pool.{lists};
+ghost use Rattle.serial.specs.Branch.{pick};
+ghost use Rattle.block.specs.declared.refusal.Answer.the-variants.{Refused as NotDone};
+ghost use Rattle.block.specs.Sizes.{ackSizes, pairs};
+ghost use Rattle.block.specs.WellFormed.{ackNumbers};
+ghost use Rattle.receive.specs.Fits.{receiveFits};
+ghost use Rattle.kcp.specs.Calls.{badPool, Promised, moveBufOf, Peeked, Receives, setWndsizeOf, wndsizeNumber, pushOf};
+use block::Kcp;
+use block::acklist::AckList;
+use block::refusal::Answer;
+use block::refusal::Refusal;
+use block::set::Set;
+use block::sizes::ack_sizes;
+use receive::Length;
+
+// The block after recv, and its answer.
+pub struct Received {
+    pub block: Kcp,
+    pub answer: Length,
+}
+
+// The block after a push, whether it was refused, and how many pushes were skipped, 0 or 1.
+pub struct Pushed {
+    pub block: Kcp,
+    pub answer: Answer,
+    pub skipped: u32,
+}
+
+// Refused by 15: all as it was.
+fn bad_pool(block: Kcp) -> Set
+    ensures { λ r. ⌜ r ≡ badPool block ⌝ }
+{
+    Set {
+        block: block,
+        answer: Answer::Refused {
+            why: Refusal::BadPool,
+        },
+    }
+}
+
+// Moves held segments to the queue while the front is rcv_nxt and the queue is shorter than rcv_wnd. Refused by 15, which leaves all.
+pub fn move_buf(block: Kcp, order: &[u32], records: &[u32], room: &[u8]) -> Set
+    ensures { λ r. ⌜ Promised (moveBufOf block (lists (now (order .entry)) (now (records .entry)) (now (room .entry))))
+        (pick (receiveFits block (lists (now (order .entry)) (now (records .entry)) (now (room .entry)))) 0 15) r ⌝ }
+{
+    let mut marks = [0u8; 1024];
+    if !receive::well_formed(block, order, records, room, &mut marks) {
+        return bad_pool(block);
+    }
+    let receiver = receive::move_buf(block.receiver, order, records);
+    Set {
+        block: block.with_receiver(receiver),
+        answer: Answer::Done,
+    }
+}
+
+// The length of the message at the front of the queue. Refused by 15, 5 or 6.
+pub fn peeksize(block: Kcp, order: &[u32], records: &[u32], room: &[u8]) -> Length
+    ensures { λ r. ⌜ Peeked block (lists (now (order .entry)) (now (records .entry)) (now (room .entry))) r ⌝ }
+{
+    let mut marks = [0u8; 1024];
+    if !receive::well_formed(block, order, records, room, &mut marks) {
+        return Length::Refused {
+            why: Refusal::BadPool,
+        };
+    }
+    receive::peeksize(block.receiver, order, records)
+}
+
+// Hands the message at the front of the queue out into `buf`, and answers its length. Refused by 15, 5, 6 or 7, which leaves all.
+pub fn recv(block: Kcp, order: &mut [u32], records: &[u32], room: &[u8], buf: &mut [u8]) -> Received
+    ensures { λ r. ⌜ Receives block (lists (now (order .entry)) (now (records .entry)) (now (room .entry))) (now (buf .entry))
+        (record { block = r .block; answer = r .answer; pool = lists (now (order .exit)) (now (records .entry)) (now (room .entry)); buf = now (buf .exit) }) ⌝ }
+{
+    let mut marks = [0u8; 1024];
+    if !receive::well_formed(block, order, records, room, &mut marks) {
+        return Received {
+            block: block,
+            answer: Length::Refused {
+                why: Refusal::BadPool,
+            },
+        };
+    }
+    let before = block.receiver;
+    let out = receive::recv(before, order, records, room, buf);
+    let after = out.receiver;
+    let answer = out.answer;
+    let probe = receive::recovered(block.probe, before, after.queued);
+    Received {
+        block: block.with_receiver(after).with_probe(probe),
+        answer: answer,
+    }
+}
+
+// Sets both windows. Refused by 15, or by 14 where the receive window asks for more slots than are lent; either leaves both windows.
+pub fn set_wndsize(
+    block: Kcp,
+    sndwnd: u16,
+    rcvwnd: u16,
+    order: &[u32],
+    records: &[u32],
+    room: &[u8],
+) -> Set
+    ensures { λ r. ⌜ Promised (setWndsizeOf block (lists (now (order .entry)) (now (records .entry)) (now (room .entry))) sndwnd rcvwnd)
+        (wndsizeNumber block (lists (now (order .entry)) (now (records .entry)) (now (room .entry))) rcvwnd) r ⌝ }
+{
+    let mut marks = [0u8; 1024];
+    if !receive::well_formed(block, order, records, room, &mut marks) {
+        return bad_pool(block);
+    }
+    receive::set_wndsize(block, order.len(), sndwnd, rcvwnd)
+}
+
+// A push that was refused: all as it was, and none skipped.
+fn unpushed(block: Kcp, why: Refusal) -> Pushed
+    ensures { λ r. ⌜ r ≡ record { block = block; answer = NotDone why; skipped = 0 } ⌝ }
+{
+    Pushed {
+        block: block,
+        answer: Answer::Refused { why: why },
+        skipped: 0,
+    }
+}
+
+// Whether an ack memory of these lengths is within the limits and holds the acks that the block counts.
+fn ack_fits(acklist: AckList, acks: usize, waiting: usize) -> bool
+    ensures { λ r. ⌜ r ≡ (ackSizes acks waiting && ackNumbers (pairs acks) acklist) ⌝ }
+{
+    if ack_sizes(acks, waiting) {
+        return acklist.ack_numbers(acks / Kcp::ACK_PAIR);
+    }
+    false
+}
+
+// A push alone, as input does it for each push of a datagram. Refused by 15, or by 11 where no slot would hold the payload.
+pub fn push(
+    block: Kcp,
+    order: &mut [u32],
+    records: &mut [u32],
+    room: &mut [u8],
+    acks: &mut [u32],
+    waiting: &[u8],
+    sn: u32,
+    frg: u8,
+    ts: u32,
+    payload: &[u8],
+) -> Pushed
+    ensures { λ r. ⌜ record { block = r .block; answer = r .answer; skipped = r .skipped; pool = lists (now (order .exit)) (now (records .exit)) (now (room .exit)); acks = now (acks .exit) }
+        ≡ pushOf block (lists (now (order .entry)) (now (records .entry)) (now (room .entry))) (now (acks .entry)) (now (waiting .entry)) (record { sn = sn; frg = frg; payload = now (payload .entry) }) ts ⌝ }
+{
+    let mut marks = [0u8; 1024];
+    if !receive::well_formed(block, order, records, room, &mut marks) {
+        return unpushed(block, Refusal::BadPool);
+    }
+    if !ack_fits(block.acklist, acks.len(), waiting.len()) {
+        return unpushed(block, Refusal::BadPool);
+    }
+    if payload.len() > Kcp::ROOM {
+        return unpushed(block, Refusal::DatagramTooBig);
+    }
+    let out = receive::push(
+        block.receiver,
+        block.acklist,
+        order,
+        records,
+        room,
+        acks,
+        &mut marks,
+        sn,
+        frg,
+        ts,
+        payload,
+    );
+    Pushed {
+        block: block.with_receiver(out.receiver).with_acklist(out.acklist),
+        answer: Answer::Done,
+        skipped: out.skipped,
+    }
+}

@@ -1,0 +1,97 @@
+// The calls that are handed the receive pool, over a block that a host keeps as forty words. Words that are no block are refused by 15, which
+// leaves all.
+ghost use mathlib.Core.Path.{_≡_};
+ghost use Rattle.slots.specs.Pool.{lists};
+ghost use Rattle.kcp.specs.Calls.{moveBufOf, setWndsizeOf};
+ghost use Rattle.host_receive.specs.Words.{Called, WordsPeeked, WordsReceived, WordsPushed};
+
+// Moves held segments to the queue. 0, or 15.
+#[no_mangle]
+pub extern "C" fn kcp_move_buf(
+    words: &mut [u32],
+    order: &[u32],
+    records: &[u32],
+    room: &[u8],
+) -> u32
+    ensures { λ r. ⌜ Called (λ k. moveBufOf k (lists (now (order .entry)) (now (records .entry)) (now (room .entry)))) (now (words .entry)) r (now (words .exit)) ⌝ }
+{
+    host_receive::move_buf(words, order, records, room)
+}
+
+// Sets both windows. 0, or 14 or 15.
+#[no_mangle]
+pub extern "C" fn kcp_set_wndsize(
+    words: &mut [u32],
+    sndwnd: u16,
+    rcvwnd: u16,
+    order: &[u32],
+    records: &[u32],
+    room: &[u8],
+) -> u32
+    ensures { λ r. ⌜ Called (λ k. setWndsizeOf k (lists (now (order .entry)) (now (records .entry)) (now (room .entry))) sndwnd rcvwnd) (now (words .entry)) r (now (words .exit)) ⌝ }
+{
+    host_receive::set_wndsize(words, sndwnd, rcvwnd, order, records, room)
+}
+
+// The length of the message at the front of the queue, put into `length`. 0, or 5, 6 or 15, which leave it.
+#[no_mangle]
+pub extern "C" fn kcp_peeksize(
+    words: &[u32],
+    order: &[u32],
+    records: &[u32],
+    room: &[u8],
+    length: &mut usize,
+) -> u32
+    ensures { λ r. ⌜ WordsPeeked (lists (now (order .entry)) (now (records .entry)) (now (room .entry))) (now (words .entry)) (now (length .entry)) r (now (length .exit)) ⌝ }
+{
+    host_receive::peeksize(words, order, records, room, length)
+}
+
+// Hands the message at the front of the queue out into `buf`, and puts its length into `length`. 0, or 5, 6, 7 or 15, which leave all.
+#[no_mangle]
+pub extern "C" fn kcp_recv(
+    words: &mut [u32],
+    order: &mut [u32],
+    records: &[u32],
+    room: &[u8],
+    buf: &mut [u8],
+    length: &mut usize,
+) -> u32
+    ensures { λ r. ⌜ WordsReceived (lists (now (order .entry)) (now (records .entry)) (now (room .entry))) (now (buf .entry)) (now (words .entry)) (now (length .entry)) r
+        (lists (now (order .exit)) (now (records .entry)) (now (room .entry))) (now (buf .exit)) (now (words .exit)) (now (length .exit)) ⌝ }
+{
+    host_receive::recv(words, order, records, room, buf, length)
+}
+
+// A push alone; the number of pushes skipped, 0 or 1, is put into `skipped`. 0, or 11 or 15, which leave all else.
+#[no_mangle]
+pub extern "C" fn kcp_push(
+    words: &mut [u32],
+    order: &mut [u32],
+    records: &mut [u32],
+    room: &mut [u8],
+    acks: &mut [u32],
+    waiting: &[u8],
+    sn: u32,
+    frg: u8,
+    ts: u32,
+    payload: &[u8],
+    skipped: &mut u32,
+) -> u32
+    ensures { λ r. ⌜ WordsPushed (lists (now (order .entry)) (now (records .entry)) (now (room .entry))) (now (acks .entry)) (now (waiting .entry)) (record { sn = sn; frg = frg; payload = now (payload .entry) }) ts
+        (now (words .entry)) (now (skipped .entry)) r (lists (now (order .exit)) (now (records .exit)) (now (room .exit))) (now (acks .exit)) (now (words .exit)) (now (skipped .exit)) ⌝ }
+{
+    host_receive::push(
+        words,
+        order,
+        records,
+        room,
+        acks,
+        waiting,
+        sn,
+        frg,
+        ts,
+        payload,
+        skipped,
+    )
+}
