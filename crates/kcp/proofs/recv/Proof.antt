@@ -48,7 +48,7 @@ returns-2 c =
     let s = c .before .before .before .before .before .before .before .before .before .before .before .before .before .before .before .before .before .before .before .before .before in
     let a = s .args in
     let p = lists (a .order .now) (a .records .now) (a .room .now) in
-    received (a .block) p (c .before .before .before .before .before .before .before .before .before .before .before .before .before .before .well-formed .ensures .0) (c .before .before .before .before .before .before .before .before .before .before .before .before .if1 .left) (a .buf .now) _ _ _ (c .before .before .before .before .before .before .before .before .recv .ensures) _ (c .before .before .recovered .ensures) _ _ (c .before .with-receiver .ensures) (c .with-probe .ensures)
+    received (a .block) p (c .before .before .before .before .before .before .before .before .before .before .before .before .before .before .well-formed .ensures .0) (c .before .before .before .before .before .before .before .before .before .before .before .before .if1 .left) (a .buf .now) _ (lists _ _ _) _ (c .before .before .before .before .before .before .before .before .recv .ensures) _ (c .before .before .recovered .ensures) _ _ (c .before .with-receiver .ensures) (c .with-probe .ensures)
 
 pub recv-spec : {M : Type 1} → statement M
 recv-spec =
