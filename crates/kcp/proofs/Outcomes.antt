@@ -6,7 +6,7 @@ use mathlib.Core.Path.{_≡_, refl, sym, ap, _∙_}
 use mathlib.Core.Bool.{Bool, true, false, cond, not, _&&_}
 use mathlib.Core.List.{List, [], _∷_}
 use lib.ListN.{length, take}
-use lib.Dec.{ltb, leb}
+use lib.Dec.{ltb}
 use borrow.Author.Tests.{not-true, not-false, le-leb, lt-leb}
 use Rattle.serial.specs.Branch.{pick, pick-true, pick-false}
 use Rattle.slots.specs.Entries.{total}
@@ -30,7 +30,7 @@ use Rattle.receive.specs.declared.Length.{Length}
 use Rattle.receive.specs.declared.Length.the-variants.{Refused}
 use Rattle.receive.specs.declared.Handed.{Handed}
 use Rattle.receive.specs.declared.Pushed.{Pushed as Taken}
-use Rattle.receive.specs.Memory.{Side, moveBufAt, peekAt, answerAt, recvAt, bytesAt, probeAt, refusalOf, lengthAnswer, numberOfLength, windowsAt, queueMarks, queueSizes, fullAt, pushAt, acksAt, skipsAt, HandedAs, PushedAs}
+use Rattle.receive.specs.Memory.{Side, moveBufAt, peekAt, answerAt, recvAt, probeAt, refusalOf, lengthAnswer, numberOfLength, windowsAt, queueMarks, queueSizes, fullAt, pushAt, acksAt, skipsAt, HandedAs, PushedAs}
 use Rattle.receive.specs.Fits.{receiveFits}
 use Rattle.kcp.specs.declared.Pushed.{Pushed}
 use Rattle.kcp.specs.Calls.{badPool, moveBufOf, Promised, numberIn, peeksizeOf, Peeked, handedOver, RecvOut, recvOf, Receives, setWndsizeOf, wndsizeNumber, ackFits, pushFits, PushOut, pushed, pushOf}
@@ -74,13 +74,13 @@ module _ (k : Kcp) (p : Lists) where
     unfolding moveBufOf
     unmoved r e = rw e (record { is = sym (pick-false _ _ unfit); refusal = sym (pick-false _ _ unfit); values = refl })
 
-    pub unpeeked : Peeked k p (Refused BadPool)
+    pub unpeeked : (r : Length) → r ≡ Refused BadPool → Peeked k p r
     unfolding peeksizeOf
-    unpeeked = record { is = sym (pick-false _ _ unfit); refusal = sym (pick-false _ _ unfit) }
+    unpeeked r e = rw e (record { is = sym (pick-false _ _ unfit); refusal = sym (pick-false _ _ unfit) })
 
-    pub unreceived : (buf : List ℕ) → Receives k p buf (record { block = k; answer = Refused BadPool; pool = p; buf = buf })
+    pub unreceived : (buf : List ℕ) (r : Length) → r ≡ Refused BadPool → Receives k p buf (record { block = k; answer = r; pool = p; buf = buf })
     unfolding recvOf
-    unreceived buf = record { is = sym (pick-false _ _ unfit); refusal = sym (pick-false _ _ unfit) }
+    unreceived buf r e = rw e (record { is = sym (pick-false _ _ unfit); refusal = sym (pick-false _ _ unfit) })
 
     pub unset : (sndwnd rcvwnd : ℕ) (r : Set) → r ≡ badPool k → Promised (setWndsizeOf k p sndwnd rcvwnd) (wndsizeNumber k p rcvwnd) r
     unfolding setWndsizeOf wndsizeNumber

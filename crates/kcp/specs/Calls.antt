@@ -21,7 +21,7 @@ use Rattle.receiving.specs.Rules.{Segment, tooLarge}
 use Rattle.receiving.specs.Rules as rules
 use Rattle.receive.specs.declared.Length.{Length}
 use Rattle.receive.specs.declared.Length.the-variants.{Is, Refused}
-use Rattle.receive.specs.Memory.{Side, moveBufAt, peekAt, answerAt, recvAt, bytesAt, probeAt, lengthAnswer, numberOfLength, valuesOfLength, windowsAt, fullAt, pushAt, acksAt, listAt, skipsAt}
+use Rattle.receive.specs.Memory.{Side, moveBufAt, peekAt, answerAt, recvAt, bytesAt, probeAt, lengthAnswer, numberOfLength, windowsAt, fullAt, pushAt, acksAt, listAt, skipsAt}
 use Rattle.receive.specs.Fits.{receiveFits}
 
 -- refused by 15, and all as it was

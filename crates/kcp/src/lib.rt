@@ -7,6 +7,7 @@ ghost use Rattle.serial.specs.Branch.{pick};
 ghost use Rattle.block.specs.declared.refusal.Answer.the-variants.{Refused as NotDone};
 ghost use Rattle.block.specs.Sizes.{ackSizes, pairs};
 ghost use Rattle.block.specs.WellFormed.{ackNumbers};
+ghost use Rattle.receive.specs.declared.Length.the-variants.{Refused};
 ghost use Rattle.receive.specs.Fits.{receiveFits};
 ghost use Rattle.kcp.specs.Calls.{badPool, Promised, moveBufOf, Peeked, Receives, setWndsizeOf, wndsizeNumber, pushOf};
 use block::Kcp;
@@ -58,15 +59,20 @@ pub fn move_buf(block: Kcp, order: &[u32], records: &[u32], room: &[u8]) -> Set
     }
 }
 
+// A refusal of peeksize or recv.
+fn no_length(why: Refusal) -> Length
+    ensures { λ r. ⌜ r ≡ Refused why ⌝ }
+{
+    Length::Refused { why: why }
+}
+
 // The length of the message at the front of the queue. Refused by 15, 5 or 6.
 pub fn peeksize(block: Kcp, order: &[u32], records: &[u32], room: &[u8]) -> Length
     ensures { λ r. ⌜ Peeked block (lists (now (order .entry)) (now (records .entry)) (now (room .entry))) r ⌝ }
 {
     let mut marks = [0u8; 1024];
     if !receive::well_formed(block, order, records, room, &mut marks) {
-        return Length::Refused {
-            why: Refusal::BadPool,
-        };
+        return no_length(Refusal::BadPool);
     }
     receive::peeksize(block.receiver, order, records)
 }
@@ -80,9 +86,7 @@ pub fn recv(block: Kcp, order: &mut [u32], records: &[u32], room: &[u8], buf: &m
     if !receive::well_formed(block, order, records, room, &mut marks) {
         return Received {
             block: block,
-            answer: Length::Refused {
-                why: Refusal::BadPool,
-            },
+            answer: no_length(Refusal::BadPool),
         };
     }
     let before = block.receiver;

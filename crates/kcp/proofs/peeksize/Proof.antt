@@ -14,12 +14,15 @@ slice-aggregate-well-formed c = search needs
 well-formed-requires : tie.Need-well-formed-requires
 well-formed-requires c κs = search needs
 
+no-length-requires : tie.Need-no-length-requires
+no-length-requires c κs = search needs
+
 returns : tie.Need-returns
 returns c =
-    let s = c .before .before .before .before .before .before .before in
+    let s = c .before .before .before .before .before .before .before .before in
     let a = s .args in
     let p = lists (a .order .now) (a .records .now) (a .room .now) in
-    unpeeked (a .block) p (c .before .before .well-formed .ensures .0) (c .if1 .taken)
+    unpeeked (a .block) p (c .before .before .before .well-formed .ensures .0) (c .before .if1 .taken) _ (c .no-length .ensures)
 
 peeksize-requires : tie.Need-peeksize-requires
 peeksize-requires c κs =
@@ -39,4 +42,4 @@ returns-2 c =
 pub peeksize-spec : {M : Type 1} → statement M
 peeksize-spec =
     tie.close
-    (tie.spec slice-aggregate-well-formed well-formed-requires returns peeksize-requires returns-2)
+    (tie.spec slice-aggregate-well-formed well-formed-requires no-length-requires returns peeksize-requires returns-2)

@@ -114,7 +114,7 @@ returns-4 c =
     let a = s .args in
     let p = lists (a .order .now) (a .records .now) (a .room .now) in
     let y : Segment = record { sn = a .sn; frg = a .frg; payload = a .payload .now } in
-    push-done (a .block) p (a .acks .now) (a .waiting .now) y (a .ts) (c .before .before .before .before .before .before .before .before .before .before .before .before .before .before .before .before .before .before .before .before .before .before .well-formed .ensures .0) (c .before .before .before .before .before .before .before .before .before .before .before .before .before .before .before .before .before .before .before .before .if1 .left) (c .before .before .before .before .before .before .before .before .before .before .before .before .before .before .before .before .before .before .before .ack-fits .ensures) (c .before .before .before .before .before .before .before .before .before .before .before .before .before .before .before .before .before .before .if2 .left) (c .before .before .before .before .before .before .before .before .before .before .before .before .before .before .before .before .before .if3 .left) _ _ _ (c .before .before .before .before .before .before .before .before .before .before .before .push .ensures .0) _ _ (c .before .with-receiver .ensures) (c .with-acklist .ensures)
+    push-done (a .block) p (a .acks .now) (a .waiting .now) y (a .ts) (c .before .before .before .before .before .before .before .before .before .before .before .before .before .before .before .before .before .before .before .before .before .before .well-formed .ensures .0) (c .before .before .before .before .before .before .before .before .before .before .before .before .before .before .before .before .before .before .before .before .if1 .left) (c .before .before .before .before .before .before .before .before .before .before .before .before .before .before .before .before .before .before .before .ack-fits .ensures) (c .before .before .before .before .before .before .before .before .before .before .before .before .before .before .before .before .before .before .if2 .left) (c .before .before .before .before .before .before .before .before .before .before .before .before .before .before .before .before .before .if3 .left) _ (lists _ _ _) _ (c .before .before .before .before .before .before .before .before .before .before .before .push .ensures .0) _ _ (c .before .with-receiver .ensures) (c .with-acklist .ensures)
 
 pub push-spec : {M : Type 1} → statement M
 push-spec =

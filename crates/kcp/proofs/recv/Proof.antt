@@ -12,15 +12,18 @@ slice-aggregate-well-formed c = search needs
 well-formed-requires : tie.Need-well-formed-requires
 well-formed-requires c κs = search needs
 
+no-length-requires : tie.Need-no-length-requires
+no-length-requires c κs = search needs
+
 same-length : tie.Need-same-length
 same-length c = search needs
 
 returns : tie.Need-returns
 returns c =
-    let s = c .before .before .before .before .before .before .before .before .before in
+    let s = c .before .before .before .before .before .before .before .before .before .before in
     let a = s .args in
     let p = lists (a .order .now) (a .records .now) (a .room .now) in
-    unreceived (a .block) p (c .before .before .well-formed .ensures .0) (c .if1 .taken) (a .buf .now)
+    unreceived (a .block) p (c .before .before .before .well-formed .ensures .0) (c .before .if1 .taken) (a .buf .now) _ (c .no-length .ensures)
 
 recv-requires : tie.Need-recv-requires
 recv-requires c κs = c .before .before .before .before .before .well-formed .ensures .1 .0 (not-false _ (c .before .before .before .if1 .left)) .pool
@@ -45,7 +48,7 @@ returns-2 c =
     let s = c .before .before .before .before .before .before .before .before .before .before .before .before .before .before .before .before .before .before .before .before .before in
     let a = s .args in
     let p = lists (a .order .now) (a .records .now) (a .room .now) in
-    received (a .block) p (c .before .before .before .before .before .before .before .before .before .before .before .before .before .before .well-formed .ensures .0) (c .before .before .before .before .before .before .before .before .before .before .before .before .if1 .left) (a .buf .now) _ _ _ (c .before .before .before .before .before .before .before .before .recv .ensures) _ (c .before .before .recovered .ensures) _ _ (c .before .with-receiver .ensures) (c .with-probe .ensures)
+    received (a .block) p (c .before .before .before .before .before .before .before .before .before .before .before .before .before .before .well-formed .ensures .0) (c .before .before .before .before .before .before .before .before .before .before .before .before .if1 .left) (a .buf .now) _ (lists _ _ _) _ (c .before .before .before .before .before .before .before .before .recv .ensures) _ (c .before .before .recovered .ensures) _ _ (c .before .with-receiver .ensures) (c .with-probe .ensures)
 
 pub recv-spec : {M : Type 1} → statement M
 recv-spec =
@@ -53,6 +56,7 @@ recv-spec =
     (tie.spec
     slice-aggregate-well-formed
     well-formed-requires
+    no-length-requires
     same-length
     returns
     recv-requires
