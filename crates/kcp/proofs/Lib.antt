@@ -1,3 +1,4 @@
 pub mod Outcomes
 pub mod Memory
 pub mod History
+pub mod Table

@@ -7,9 +7,10 @@ use mathlib.Core.List.{List, [], _∷_, map}
 use lib.IntN.{ℤ, pos, negsuc}
 use Rattle.serial.specs.Branch.{pick}
 use Rattle.serial.specs.Wrap.{signed32, timediff}
-use Rattle.serial.specs.Window.{distance, inWindow, acknowledged}
+use Rattle.serial.specs.Window.{distance, acknowledged}
 use Rattle.estimator.specs.declared.Estimator.{Estimator}
 use Rattle.estimator.specs.Estimate.{fresh, timed, measured}
+use Rattle.receiving.specs.Rules.{Receiving, skipped, isHeld, reached, taken}
 
 pub data Value : Type 0 where
   signed : ℤ → Value
@@ -23,9 +24,13 @@ pub record Row : Type 0 where
 row : Value → Value → Row
 row gives says = record { gives = gives; says = says }
 
--- whether a push is acknowledged, and whether it is taken where it is not held
+-- a receive side that holds nothing
+at : ℕ → ℕ → Receiving
+at rcvNxt rcvWnd = record { next = rcvNxt; window = rcvWnd; largest = rcvWnd; queue = []; held = [] }
+
+-- whether a push is acknowledged, and whether it is taken, with room in the ack list
 push : ℕ → ℕ → ℕ → Value
-push rcvNxt rcvWnd sn = flags (acknowledged rcvNxt rcvWnd sn ∷ inWindow rcvNxt rcvWnd sn ∷ [])
+push rcvNxt rcvWnd sn = flags (acknowledged rcvNxt rcvWnd sn ∷ taken false (at rcvNxt rcvWnd) sn ∷ [])
 
 -- a fresh estimator that measures one time after the other, at the default interval
 after : List ℕ → Estimator
@@ -55,5 +60,5 @@ table =
     ∷ []
 
 pub worked : map (λ (r : Row). r .gives) table ≡ map (λ (r : Row). r .says) table
-unfolding row push after times table pick distance signed32 timed measured
+unfolding row at push taken reached skipped isHeld after times table pick distance signed32 timed measured
 worked = refl
