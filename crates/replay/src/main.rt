@@ -96,11 +96,23 @@ fn write_tally(tally: Tally) {
     io::write_all(STDOUT_FILENO, b"\n");
 }
 
-// The payloads of 512 slots. The contract gives the length alone, which lending the array needs.
+// The sample, and the payloads of 512 receive slots and of 128 send slots. Each contract gives the length alone, which lending the array needs.
+fn sample_steps() -> [u32; 4500]
+    ensures { λ r. ⌜ 4500 ≡ length r ⌝ }
+{
+    STEPS
+}
+
 fn receive_room() -> [u8; 755712]
     ensures { λ r. ⌜ 755712 ≡ length r ⌝ }
 {
     [0; 755712]
+}
+
+fn send_room() -> [u8; 188928]
+    ensures { λ r. ⌜ 188928 ≡ length r ⌝ }
+{
+    [0; 188928]
 }
 
 // Makes a fresh block over the memory lent, makes the steps on it, and writes the tally. The send pool is there for the making alone.
@@ -114,7 +126,7 @@ fn play(
 ) {
     let snd_order = [0u32; 128];
     let snd_records = [0u32; 1024];
-    let snd_room = [0u8; 188928];
+    let snd_room = send_room();
     let made = Kcp::new(
         1,
         order,
@@ -130,7 +142,7 @@ fn play(
         io::write_all(STDOUT_FILENO, b"no block\n");
         return;
     };
-    let steps = STEPS;
+    let steps = sample_steps();
     write_tally(run(block, &steps, order, records, room, acks, waiting, buf));
 }
 

@@ -1,6 +1,7 @@
 // The worked values of 01 that are run: each row calls the port, and writes what was called and the number of its refusal, 0 where there is
-// none. The file stdout has the same lines, written from 01. A block of its own is made for each group of rows.
+// none. The file stdout has the same lines, written from 01. Each group of rows is a function over the fresh block.
 ghost use mathlib.Core.Path.{_≡_};
+ghost use lib.ListN.{length};
 ghost use Rattle.serial.specs.Branch.{pick};
 ghost use Rattle.slots.specs.Pool.{lists};
 ghost use Rattle.block.specs.Sizes.{mtuSize};
@@ -62,30 +63,49 @@ fn mtu_rows(block: Kcp) {
     write_row(b"set_mtu(1501)", mtu_number(block, 1501));
 }
 
-fn main() {
-    let rcv_order = [0u32; 256];
-    let rcv_records = [0u32; 512];
-    let rcv_room = [0u8; 377856];
+// The payloads of 256 receive slots and of 128 send slots. Each contract gives the length alone, which lending the array needs.
+fn receive_room() -> [u8; 377856]
+    ensures { λ r. ⌜ 377856 ≡ length r ⌝ }
+{
+    [0; 377856]
+}
+
+fn send_room() -> [u8; 188928]
+    ensures { λ r. ⌜ 188928 ≡ length r ⌝ }
+{
+    [0; 188928]
+}
+
+// Makes a fresh block over the memory lent, and writes the rows. The send pool is there for the making alone.
+fn rows(order: &[u32], records: &[u32], room: &[u8], acks: &[u32], waiting: &[u8]) {
     let snd_order = [0u32; 128];
     let snd_records = [0u32; 1024];
-    let snd_room = [0u8; 188928];
-    let acks = [0u32; 256];
-    let waiting = [0u8; 1500];
+    let snd_room = send_room();
     let made = Kcp::new(
         1,
-        &rcv_order,
-        &rcv_records,
-        &rcv_room,
+        order,
+        records,
+        room,
         &snd_order,
         &snd_records,
         &snd_room,
-        &acks,
-        &waiting,
+        acks,
+        waiting,
     );
     let Made::Block { block } = made else {
         io::write_all(STDOUT_FILENO, b"no block\n");
         return;
     };
-    window_rows(block, &rcv_order, &rcv_records, &rcv_room);
+    window_rows(block, order, records, room);
     mtu_rows(block);
+}
+
+// R = 256 and A = 128.
+fn main() {
+    let order = [0u32; 256];
+    let records = [0u32; 512];
+    let room = receive_room();
+    let acks = [0u32; 256];
+    let waiting = [0u8; 1500];
+    rows(&order, &records, &room, &acks, &waiting);
 }

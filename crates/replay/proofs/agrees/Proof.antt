@@ -1,4 +1,4 @@
--- `replay::agrees` meets its contract. Assumes nothing.
+-- `replay::agrees` meets its contract. What the calls ensure, put together. Assumes nothing.
 use borrow.Author.Needs.{needs}
 use Rattle.replay.proofs.agrees.Statement.{statement}
 use Rattle.replay.proofs.agrees.Tie as tie

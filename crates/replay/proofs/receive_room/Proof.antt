@@ -1,4 +1,4 @@
--- `replay::receive_room` meets its contract. Assumes nothing.
+-- `replay::receive_room` meets its contract: a repeat is as long as its count. Assumes nothing.
 use Prim.Native.Nat.{ℕ}
 use mathlib.Core.Path.{sym}
 use lib.ListN.{length-replicate}

@@ -1,4 +1,4 @@
--- `replay::run` meets its contract. Assumes nothing.
+-- `replay::run` meets its contract. The loop's invariant: the tally is fair and counts the steps, and no lent memory changes its length. Assumes nothing.
 use Prim.Native.Nat.{ℕ, _≤_, _-_}
 use mathlib.Core.Path.{_≡_, _∙_}
 use mathlib.Core.List.{List}

@@ -1,4 +1,4 @@
--- `replay::agree::same_numbers` meets its contract. Assumes nothing.
+-- `replay::agree::same_numbers` meets its contract. What the calls ensure, put together. Assumes nothing.
 use borrow.Author.Needs.{needs}
 use Rattle.replay.proofs.agree.same_numbers.Statement.{statement}
 use Rattle.replay.proofs.agree.same_numbers.Tie as tie
@@ -19,7 +19,9 @@ both-requires-5 : tie.Need-both-requires-5
 both-requires-5 c κs = search needs
 
 returns : tie.Need-returns
-returns c = cc
+returns c =
+    let b = c .before .before .before .before .before .before .before .before .before in
+    rw (c .both5 .ensures, c .before .both4 .ensures, c .before .before .both3 .ensures, b .both2 .ensures, b .before .both .ensures)
 
 pub same-numbers-spec : {M : Type 1} → statement M
 same-numbers-spec =

@@ -1,4 +1,4 @@
--- `replay::calls::made_by_length` meets its contract. Assumes nothing.
+-- `replay::calls::made_by_length` meets its contract. The answer's number and its length. Assumes nothing.
 use borrow.Author.Needs.{needs}
 use Rattle.replay.proofs.calls.made_by_length.Statement.{statement}
 use Rattle.replay.proofs.calls.made_by_length.Tie as tie
@@ -10,7 +10,7 @@ length-of-requires : tie.Need-length-of-requires
 length-of-requires c κs = search needs
 
 returns : tie.Need-returns
-returns c = cc
+returns c = rw (c .length-of .ensures, c .before .number-of .ensures)
 
 pub made-by-length-spec : {M : Type 1} → statement M
 made-by-length-spec = tie.close (tie.spec number-of-requires length-of-requires returns)

@@ -1,4 +1,4 @@
--- `replay::calls::made_by_set` meets its contract. Assumes nothing.
+-- `replay::calls::made_by_set` meets its contract. The answer's number. Assumes nothing.
 use borrow.Author.Needs.{needs}
 use Rattle.replay.proofs.calls.made_by_set.Statement.{statement}
 use Rattle.replay.proofs.calls.made_by_set.Tie as tie
@@ -7,7 +7,7 @@ number-requires : tie.Need-number-requires
 number-requires c κs = search needs
 
 returns : tie.Need-returns
-returns c = cc
+returns c = rw (c .number .ensures)
 
 pub made-by-set-spec : {M : Type 1} → statement M
 made-by-set-spec = tie.close (tie.spec number-requires returns)

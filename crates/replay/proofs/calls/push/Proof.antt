@@ -1,4 +1,4 @@
--- `replay::calls::push` meets its contract. Assumes nothing.
+-- `replay::calls::push` meets its contract. What the call ensures, as the numbers of the sample. Assumes nothing.
 use mathlib.Core.Path.{ap}
 use borrow.Author.Needs.{needs}
 use Rattle.replay.specs.Calls.{madeByPush}

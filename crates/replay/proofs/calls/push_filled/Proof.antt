@@ -1,4 +1,4 @@
--- `replay::calls::push_filled` meets its contract. Assumes nothing.
+-- `replay::calls::push_filled` meets its contract. What the push ensures, of the bytes that `fill` left. Assumes nothing.
 use borrow.Author.Needs.{needs}
 use Rattle.replay.proofs.calls.push_filled.Statement.{statement}
 use Rattle.replay.proofs.calls.push_filled.Tie as tie

@@ -1,4 +1,4 @@
--- `replay::calls::push_step` meets its contract. Assumes nothing.
+-- `replay::calls::push_step` meets its contract. The part of `buf` that is lent is as long as the payload. Assumes nothing.
 use mathlib.Core.Path.{sym}
 use native.Mathlib.Omega.{arith}
 use lib.Seq.{length-take-le}

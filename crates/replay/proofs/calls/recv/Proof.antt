@@ -1,4 +1,4 @@
--- `replay::calls::recv` meets its contract. Assumes nothing.
+-- `replay::calls::recv` meets its contract. What the call ensures, through the sum over its buffer. Assumes nothing.
 use mathlib.Core.Path.{ap, _∙_}
 use borrow.Author.Needs.{needs}
 use Rattle.replay.specs.Calls.{madeByRecv}

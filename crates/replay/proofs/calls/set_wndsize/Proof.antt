@@ -1,5 +1,7 @@
--- `replay::calls::set_wndsize` meets its contract. Assumes nothing.
+-- `replay::calls::set_wndsize` meets its contract. What the call ensures, as the numbers of the sample. Assumes nothing.
+use mathlib.Core.Path.{ap, _∙_}
 use borrow.Author.Needs.{needs}
+use Rattle.replay.specs.Calls.{madeBySet}
 use Rattle.replay.proofs.calls.set_wndsize.Statement.{statement}
 use Rattle.replay.proofs.calls.set_wndsize.Tie as tie
 
@@ -10,7 +12,7 @@ made-by-set-requires : tie.Need-made-by-set-requires
 made-by-set-requires c κs = search needs
 
 returns : tie.Need-returns
-returns c = cc
+returns c = c .made-by-set .ensures ∙ ap madeBySet (c .before .set-wndsize .ensures .is)
 
 pub set-wndsize-spec : {M : Type 1} → statement M
 set-wndsize-spec = tie.close (tie.spec set-wndsize-requires made-by-set-requires returns)

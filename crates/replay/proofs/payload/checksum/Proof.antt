@@ -1,4 +1,4 @@
--- `replay::payload::checksum` meets its contract. Assumes nothing.
+-- `replay::payload::checksum` meets its contract. The first n of fewer bytes are all of them. Assumes nothing.
 use mathlib.Core.Path.{sym, ap, _∙_}
 use native.Mathlib.Omega.{arith}
 use lib.Seq.{length-take-le, take-all}

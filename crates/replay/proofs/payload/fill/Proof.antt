@@ -1,4 +1,4 @@
--- `replay::payload::fill` meets its contract. Assumes nothing.
+-- `replay::payload::fill` meets its contract. The loop's invariant: what is written and what is still to come are the payload. Assumes nothing.
 use Prim.Native.Nat.{_≤_, _-_}
 use native.Mathlib.Numerals.{unary-clauses}
 use native.Mathlib.Omega.{arith}

@@ -1,4 +1,4 @@
--- `replay::payload::sum_of` meets its contract. Assumes nothing.
+-- `replay::payload::sum_of` meets its contract. The loop's invariant: the sum so far and the bytes left give the sum. Assumes nothing.
 use Prim.Native.Nat.{_≤_, _-_}
 use native.Mathlib.Omega.{arith}
 use mathlib.Core.Path.{_≡_, refl, sym, _∙_}

@@ -1,4 +1,4 @@
--- `replay::table::answer_at` meets its contract. Assumes nothing.
+-- `replay::table::answer_at` meets its contract. A widened number is the same. Assumes nothing.
 use borrow.Author.Needs.{needs}
 use Rattle.replay.proofs.table.answer_at.Statement.{statement}
 use Rattle.replay.proofs.table.answer_at.Tie as tie
@@ -31,7 +31,7 @@ shared-slice-read-t14 : tie.Need-shared-slice-read-t14
 shared-slice-read-t14 c = search needs
 
 returns : tie.Need-returns
-returns c = cc
+returns c = rw (c .before .wide .ensures)
 
 pub answer-at-spec : {M : Type 1} → statement M
 answer-at-spec =

@@ -1,4 +1,4 @@
--- `replay::table::step_at` meets its contract. Assumes nothing.
+-- `replay::table::step_at` meets its contract. What the calls ensure, put together. Assumes nothing.
 use borrow.Author.Needs.{needs}
 use Rattle.replay.proofs.table.step_at.Statement.{statement}
 use Rattle.replay.proofs.table.step_at.Tie as tie
@@ -22,7 +22,7 @@ numbers-at-requires : tie.Need-numbers-at-requires
 numbers-at-requires c κs = search needs
 
 returns : tie.Need-returns
-returns c = cc
+returns c = rw (c .numbers-at .ensures, c .before .answer-at .ensures, c .before .before .call-at .ensures)
 
 pub step-at-spec : {M : Type 1} → statement M
 step-at-spec =

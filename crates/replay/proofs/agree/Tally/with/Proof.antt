@@ -1,4 +1,4 @@
--- `replay::agree::Tally::with` meets its contract. Assumes nothing.
+-- `replay::agree::Tally::with` meets its contract. A step that agrees leaves the tally fair. Assumes nothing.
 use mathlib.Core.Path.{refl}
 use native.Mathlib.Omega.{arith}
 use borrow.Author.Needs.{needs}

@@ -1,0 +1,12 @@
+-- `replay::send_room` meets its contract: a repeat is as long as its count. Assumes nothing.
+use Prim.Native.Nat.{ℕ}
+use mathlib.Core.Path.{sym}
+use lib.ListN.{length-replicate}
+use Rattle.replay.proofs.send_room.Statement.{statement}
+use Rattle.replay.proofs.send_room.Tie as tie
+
+returns : tie.Need-returns
+returns c = sym (length-replicate {0} {A = ℕ} 188928 0)
+
+pub send-room-spec : {M : Type 1} → statement M
+send-room-spec = tie.close (tie.spec returns)
