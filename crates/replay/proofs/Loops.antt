@@ -1,0 +1,36 @@
+-- The loops over the bytes of a payload, one turn and the end of each. Assumes nothing.
+use Prim.Native.Nat.{ℕ, suc, _+_, _-_, _≤_, _<_, _%_}
+use mathlib.Core.Path.{_≡_, refl, sym, _∙_}
+use mathlib.Core.List.{List, [], _∷_, _++_, append-assoc, append-nil}
+use native.Mathlib.Numerals.{add-one}
+use native.Mathlib.Omega.{arith}
+use lib.ListN.{length, take, drop, getD, set, drop-of-length-le}
+use lib.Seq.{drop-cons, take-all, take-suc-set}
+use Rattle.serial.specs.Wrap.{add32, mul32}
+use Rattle.replay.specs.Payload.{sumFrom, rising}
+
+-- the byte at i goes into the sum
+pub sum-more : (bs : List ℕ) (place sum i : ℕ) → i < length bs
+    → sumFrom (add32 place 1) (add32 sum (mul32 (getD bs i 0) (add32 place 1))) (drop (i + 1) bs) ≡ sumFrom place sum (drop i bs)
+unfolding sumFrom
+sum-more bs place sum i h = rw (add-one i, drop-cons bs i 0 h)
+
+pub sum-end : (bs : List ℕ) (place sum i : ℕ) → length bs ≤ i → sumFrom place sum (drop i bs) ≡ sum
+unfolding sumFrom
+sum-end bs place sum i h = rw (drop-of-length-le bs h)
+
+-- the byte at i is written, and the next is one more
+pub fill-more : (bs : List ℕ) (byte i n : ℕ) → i < n → length bs ≡ n
+    → take (i + 1) (set bs i byte) ++ rising ((byte + 1) % 256) (n - (i + 1)) ≡ take i bs ++ rising byte (n - i)
+unfolding rising
+fill-more bs byte i n h l =
+    let e : n - i ≡ suc (n - (i + 1)) = omega arith in
+    let k : i < length bs = omega arith in
+    rw (e, add-one i, take-suc-set bs i byte k, append-assoc)
+
+pub fill-end : (bs : List ℕ) (byte i n : ℕ) → n ≤ i → length bs ≡ n → take i bs ++ rising byte (n - i) ≡ bs
+unfolding rising
+fill-end bs byte i n h l =
+    let e : n - i ≡ 0 = omega arith in
+    let k : length bs ≤ i = omega arith in
+    rw (e, append-nil, take-all i bs k)

@@ -1,0 +1,44 @@
+-- What the port's calls leave, as the numbers of the sample. Assumes nothing.
+use Prim.Native.Nat.{ℕ}
+use lib.ListN.{take}
+use Rattle.block.specs.declared.Kcp.{Kcp}
+use Rattle.block.specs.declared.set.Set.{Set}
+use Rattle.block.specs.Refusals.{numberOfAnswer}
+use Rattle.receive.specs.declared.Length.{Length}
+use Rattle.receive.specs.declared.Length.the-variants.{Is, Refused}
+use Rattle.receive.specs.Memory.{numberOfLength}
+use Rattle.kcp.specs.Calls.{RecvOut, PushOut}
+use Rattle.replay.specs.declared.table.Numbers.{Numbers}
+use Rattle.replay.specs.declared.calls.Made.{Made}
+use Rattle.replay.specs.Payload.{sumOf}
+
+abbrev pub madeBySet : Set → Made
+madeBySet s = record { block = s .block; answer = record { refusal = numberOfAnswer (s .answer); length = 0; sum = 0; skipped = 0 } }
+
+-- the length, 0 beside a refusal
+abbrev pub lengthIn : Length → ℕ
+lengthIn (Is n) = n
+lengthIn (Refused why) = 0
+
+abbrev pub madeByLength : Kcp → Length → ℕ → Made
+madeByLength k answer sum =
+    record { block = k; answer = record { refusal = numberOfLength answer; length = lengthIn answer; sum = sum; skipped = 0 } }
+
+-- the sum is that of the bytes handed out
+abbrev pub madeByRecv : RecvOut → Made
+madeByRecv o = madeByLength (o .block) (o .answer) (sumOf (take (lengthIn (o .answer)) (o .buf)))
+
+abbrev pub madeByPush : PushOut → Made
+madeByPush o =
+    record { block = o .block; answer = record { refusal = numberOfAnswer (o .answer); length = 0; sum = 0; skipped = o .skipped } }
+
+abbrev pub numbersOf : Kcp → Numbers
+numbersOf k =
+    record {
+      «rcv_nxt» = k .receiver .«rcv_nxt»;
+      «rcv_wnd» = k .receiver .«rcv_wnd»;
+      queued = k .receiver .queued;
+      held = k .receiver .held;
+      acks = k .acklist .acks;
+      probe = k .probe .bits;
+    }

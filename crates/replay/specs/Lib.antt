@@ -1,0 +1,4 @@
+pub mod Payload
+pub mod Table
+pub mod Calls
+pub mod Agree

@@ -1,0 +1,291 @@
+// The calls of the sample, made on the port.
+ghost use mathlib.Core.Path.{_≡_};
+ghost use lib.ListN.{length};
+ghost use Rattle.slots.specs.Pool.{lists};
+ghost use Rattle.receive.specs.Memory.{numberOfLength};
+ghost use Rattle.kcp.specs.Calls.{moveBufOf, peeksizeOf, recvOf, setWndsizeOf, pushOf};
+ghost use Rattle.replay.specs.Calls.{lengthIn, madeBySet, madeByLength, madeByRecv, madeByPush, numbersOf};
+ghost use Rattle.replay.specs.Payload.{rising};
+use crate::low8;
+use crate::payload::checksum;
+use crate::payload::fill;
+use crate::table::Answer;
+use crate::table::Call;
+use crate::table::Numbers;
+use crate::wide;
+use block::Kcp;
+use block::set::Set;
+use receive::Length;
+
+// The block after a call, and what the call answered.
+pub struct Made {
+    pub block: Kcp,
+    pub answer: Answer,
+}
+
+// The refusal's number, or 0.
+fn number_of(answer: Length) -> u32
+    ensures { λ r. ⌜ r ≡ numberOfLength answer ⌝ }
+{
+    match answer {
+        Length::Is { length: _ } => 0,
+        Length::Refused { why } => why.number(),
+    }
+}
+
+// The length, 0 beside a refusal.
+fn length_of(answer: Length) -> usize
+    ensures { λ r. ⌜ r ≡ lengthIn answer ⌝ }
+{
+    match answer {
+        Length::Is { length } => length,
+        Length::Refused { why: _ } => 0,
+    }
+}
+
+// What a call that answers a length left; `sum` is that of the bytes handed out.
+fn made_by_length(block: Kcp, answer: Length, sum: u32) -> Made
+    ensures { λ r. ⌜ r ≡ madeByLength block answer sum ⌝ }
+{
+    Made {
+        block: block,
+        answer: Answer {
+            refusal: number_of(answer),
+            length: length_of(answer),
+            sum: sum,
+            skipped: 0,
+        },
+    }
+}
+
+// What a setter left.
+fn made_by_set(set: Set) -> Made
+    ensures { λ r. ⌜ r ≡ madeBySet set ⌝ }
+{
+    let block = set.block;
+    let answer = set.answer;
+    Made {
+        block: block,
+        answer: Answer {
+            refusal: answer.number(),
+            length: 0,
+            sum: 0,
+            skipped: 0,
+        },
+    }
+}
+
+fn move_buf(block: Kcp, order: &[u32], records: &[u32], room: &[u8]) -> Made
+    ensures { λ r. ⌜ r ≡ madeBySet (moveBufOf block (lists (now (order .entry)) (now (records .entry)) (now (room .entry)))) ⌝ }
+{
+    made_by_set(kcp::move_buf(block, order, records, room))
+}
+
+fn set_wndsize(
+    block: Kcp,
+    sndwnd: u16,
+    rcvwnd: u16,
+    order: &[u32],
+    records: &[u32],
+    room: &[u8],
+) -> Made
+    ensures { λ r. ⌜ r ≡ madeBySet (setWndsizeOf block (lists (now (order .entry)) (now (records .entry)) (now (room .entry))) sndwnd rcvwnd) ⌝ }
+{
+    made_by_set(kcp::set_wndsize(block, sndwnd, rcvwnd, order, records, room))
+}
+
+fn peeksize(block: Kcp, order: &[u32], records: &[u32], room: &[u8]) -> Made
+    ensures { λ r. ⌜ r ≡ madeByLength block (peeksizeOf block (lists (now (order .entry)) (now (records .entry)) (now (room .entry)))) 0 ⌝ }
+{
+    made_by_length(block, kcp::peeksize(block, order, records, room), 0)
+}
+
+fn recv(block: Kcp, order: &mut [u32], records: &[u32], room: &[u8], buf: &mut [u8]) -> Made
+    ensures { λ r. ⌜ r ≡ madeByRecv (recvOf block (lists (now (order .entry)) (now (records .entry)) (now (room .entry))) (now (buf .entry))) ⌝ }
+{
+    let received = kcp::recv(block, order, records, room, buf);
+    let after = received.block;
+    let answer = received.answer;
+    made_by_length(after, answer, checksum(buf, length_of(answer)))
+}
+
+fn push(
+    block: Kcp,
+    order: &mut [u32],
+    records: &mut [u32],
+    room: &mut [u8],
+    acks: &mut [u32],
+    waiting: &[u8],
+    sn: u32,
+    frg: u8,
+    ts: u32,
+    payload: &[u8],
+) -> Made
+    ensures { λ r. ⌜ r ≡ madeByPush (pushOf block (lists (now (order .entry)) (now (records .entry)) (now (room .entry))) (now (acks .entry)) (now (waiting .entry)) (record { sn = sn; frg = frg; payload = now (payload .entry) }) ts) ⌝ }
+{
+    let pushed = kcp::push(
+        block,
+        order,
+        records,
+        room,
+        acks,
+        waiting,
+        sn,
+        frg,
+        ts,
+        payload,
+    );
+    let after = pushed.block;
+    let answer = pushed.answer;
+    Made {
+        block: after,
+        answer: Answer {
+            refusal: answer.number(),
+            length: 0,
+            sum: 0,
+            skipped: pushed.skipped,
+        },
+    }
+}
+
+// What is put down for a step that is none of the sample's: no refusal has this number, so that it agrees with no row.
+const UNKNOWN: u32 = 4294967295;
+
+fn unknown(block: Kcp) -> Made
+    ensures { λ r. ⌜ r .answer .refusal ≡ 4294967295 ⌝ }
+{
+    Made {
+        block: block,
+        answer: Answer {
+            refusal: UNKNOWN,
+            length: 0,
+            sum: 0,
+            skipped: 0,
+        },
+    }
+}
+
+// The push of a payload that starts with `byte`, made in `part`.
+fn push_filled(
+    block: Kcp,
+    order: &mut [u32],
+    records: &mut [u32],
+    room: &mut [u8],
+    acks: &mut [u32],
+    waiting: &[u8],
+    sn: u32,
+    frg: u8,
+    ts: u32,
+    byte: u8,
+    part: &mut [u8],
+) -> Made
+    ensures { λ r. ⌜ r ≡ madeByPush (pushOf block (lists (now (order .entry)) (now (records .entry)) (now (room .entry))) (now (acks .entry)) (now (waiting .entry)) (record { sn = sn; frg = frg; payload = rising byte (length (now (part .entry))) }) ts) ⌝ }
+{
+    fill(part, byte);
+    push(
+        block,
+        order,
+        records,
+        room,
+        acks,
+        waiting,
+        sn,
+        frg,
+        ts,
+        part,
+    )
+}
+
+// A push of the sample, its payload made in `buf`. One that asks for more bytes than that has is unknown.
+fn push_step(
+    block: Kcp,
+    call: Call,
+    order: &mut [u32],
+    records: &mut [u32],
+    room: &mut [u8],
+    acks: &mut [u32],
+    waiting: &[u8],
+    buf: &mut [u8],
+) -> Made {
+    let len = wide(call.fourth);
+    if buf.len() < len {
+        return unknown(block);
+    }
+    let sn = call.first;
+    let frg = low8(call.second);
+    let ts = call.third;
+    let byte = low8(call.fifth);
+    push_filled(
+        block,
+        order,
+        records,
+        room,
+        acks,
+        waiting,
+        sn,
+        frg,
+        ts,
+        byte,
+        &mut buf[..len],
+    )
+}
+
+// A recv of the sample, into the first bytes of `buf`. One that asks for more than that has is unknown.
+fn recv_step(
+    block: Kcp,
+    call: Call,
+    order: &mut [u32],
+    records: &[u32],
+    room: &[u8],
+    buf: &mut [u8],
+) -> Made {
+    let len = wide(call.first);
+    if buf.len() < len {
+        return unknown(block);
+    }
+    recv(block, order, records, room, &mut buf[..len])
+}
+
+// The call that the step names, by its code.
+pub fn make(
+    block: Kcp,
+    call: Call,
+    order: &mut [u32],
+    records: &mut [u32],
+    room: &mut [u8],
+    acks: &mut [u32],
+    waiting: &[u8],
+    buf: &mut [u8],
+) -> Made {
+    let code = call.code;
+    match code {
+        1 => push_step(block, call, order, records, room, acks, waiting, buf),
+        2 => recv_step(block, call, order, records, room, buf),
+        3 => peeksize(block, order, records, room),
+        4 => move_buf(block, order, records, room),
+        5 => set_wndsize(
+            block,
+            serial::low16(call.first),
+            serial::low16(call.second),
+            order,
+            records,
+            room,
+        ),
+        _ => unknown(block),
+    }
+}
+
+// The receive numbers of the block.
+pub fn numbers(block: Kcp) -> Numbers
+    ensures { λ r. ⌜ r ≡ numbersOf block ⌝ }
+{
+    let receiver = block.receiver;
+    Numbers {
+        rcv_nxt: receiver.rcv_nxt,
+        rcv_wnd: receiver.rcv_wnd as u32,
+        queued: receiver.queued,
+        held: receiver.held,
+        acks: block.acklist.acks,
+        probe: block.probe.bits,
+    }
+}

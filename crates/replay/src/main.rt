@@ -1,0 +1,153 @@
+// The Rust's own answers on the receive side, replayed: the calls of a sample are made on a fresh block, and each answer and the block's
+// receive numbers after it are held to what the Rust gave. Writes how many steps agreed, and the first that did not.
+mod table; // the rows of the sample
+mod sample; // the sample
+mod payload; // payloads and sums
+mod calls; // the calls, made on the port
+mod agree; // the comparison
+
+ghost use mathlib.Core.Path.{_≡_};
+ghost use Prim.Native.Nat.{_%_, _*_, _≤_, _<_};
+ghost use lib.ListN.{length};
+ghost use Rattle.replay.specs.Agree.{Fair, agreesWith};
+use agree::Tally;
+use agree::both;
+use agree::same_answer;
+use agree::same_numbers;
+use block::Kcp;
+use block::make::Made;
+use calls::make;
+use calls::numbers;
+use libc::STDOUT_FILENO;
+use sample::STEPS;
+use table::step_at;
+
+// The steps of the sample.
+const COUNT: usize = 300;
+
+// A number as a wider one.
+fn wide(x: u32) -> usize
+    ensures { λ r. ⌜ r ≡ x ⌝ }
+{
+    x as usize
+}
+
+// The low 8 bits.
+fn low8(x: u32) -> u8
+    ensures { λ r. ⌜ r ≡ x % 256 ⌝ }
+{
+    (x % 256) as u8
+}
+
+// Whether a call left what the step says.
+fn agrees(made: calls::Made, step: table::Step) -> bool
+    ensures { λ r. ⌜ r ≡ agreesWith made step ⌝ }
+{
+    let block = made.block;
+    let answer = made.answer;
+    let told = step.answer;
+    let rows = step.numbers;
+    both(
+        same_answer(answer, told),
+        same_numbers(numbers(block), rows),
+    )
+}
+
+// Makes every step of the sample on this block and the memory lent to it.
+fn run(
+    block: Kcp,
+    steps: &[u32],
+    order: &mut [u32],
+    records: &mut [u32],
+    room: &mut [u8],
+    acks: &mut [u32],
+    waiting: &[u8],
+    buf: &mut [u8],
+) -> Tally
+    requires { ⌜ 15 * 300 ≤ length (now steps) ⌝ }
+    ensures { λ r. ⌜ Fair r ⌝ }
+    ensures { λ r. ⌜ r .steps ≡ 300 ⌝ }
+{
+    let mut block = block;
+    let mut tally = Tally::new();
+    let mut i = 0;
+    while i < COUNT {
+        let step = step_at(steps, i);
+        let call = step.call;
+        let made = make(block, call, order, records, room, acks, waiting, buf);
+        block = made.block;
+        tally = tally.with(agrees(made, step));
+        i += 1;
+    }
+    tally
+}
+
+// The tally in words.
+fn write_tally(tally: Tally) {
+    io::print_decimal(STDOUT_FILENO, tally.steps as u64);
+    io::write_all(STDOUT_FILENO, b" steps, ");
+    io::print_decimal(STDOUT_FILENO, tally.agreed as u64);
+    io::write_all(STDOUT_FILENO, b" agree\nfirst that does not: ");
+    if tally.first == 0 {
+        io::write_all(STDOUT_FILENO, b"none\n");
+        return;
+    }
+    io::print_decimal(STDOUT_FILENO, tally.first as u64);
+    io::write_all(STDOUT_FILENO, b"\n");
+}
+
+// The payloads of 512 slots. The contract gives the length alone, which lending the array needs.
+fn receive_room() -> [u8; 755712]
+    ensures { λ r. ⌜ 755712 ≡ length r ⌝ }
+{
+    [0; 755712]
+}
+
+// Makes a fresh block over the memory lent, makes the steps on it, and writes the tally. The send pool is there for the making alone.
+fn play(
+    order: &mut [u32],
+    records: &mut [u32],
+    room: &mut [u8],
+    acks: &mut [u32],
+    waiting: &[u8],
+    buf: &mut [u8],
+) {
+    let snd_order = [0u32; 128];
+    let snd_records = [0u32; 1024];
+    let snd_room = [0u8; 188928];
+    let made = Kcp::new(
+        1,
+        order,
+        records,
+        room,
+        &snd_order,
+        &snd_records,
+        &snd_room,
+        acks,
+        waiting,
+    );
+    let Made::Block { block } = made else {
+        io::write_all(STDOUT_FILENO, b"no block\n");
+        return;
+    };
+    let steps = STEPS;
+    write_tally(run(block, &steps, order, records, room, acks, waiting, buf));
+}
+
+// R = 512, since the sample's windows go up to 256; A = 512, since nothing empties the ack list.
+fn main() {
+    let mut order = [0u32; 512];
+    let mut records = [0u32; 1024];
+    let mut room = receive_room();
+    let mut acks = [0u32; 1024];
+    let waiting = [0u8; 1500];
+    let mut buf = [0u8; 4096];
+    play(
+        &mut order,
+        &mut records,
+        &mut room,
+        &mut acks,
+        &waiting,
+        &mut buf,
+    );
+}
