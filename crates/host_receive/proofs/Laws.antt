@@ -1,29 +1,36 @@
 -- What a host is told, by whether its words are a block, and that it is told one thing only. Assumes nothing.
-use Prim.Native.Nat.{ℕ}
+use Prim.Native.Nat.{ℕ, _<_}
 use mathlib.Core.Path.{_≡_, refl, sym, ap, _∙_}
-use mathlib.Core.Bool.{Bool, true, false}
+use mathlib.Core.Bool.{Bool, true, false, not}
 use mathlib.Core.List.{List}
+use borrow.Author.Tests.{not-true, not-false}
 use Rattle.serial.specs.Branch.{pick, pick-true, pick-false}
 use Rattle.slots.specs.Pool.{Lists}
 use Rattle.block.specs.declared.Kcp.{Kcp}
 use Rattle.block.specs.declared.set.Set.{Set}
 use Rattle.block.specs.Refusals.{numberOfAnswer}
-use Rattle.words.specs.declared.Found.{Found}
-use Rattle.words.specs.declared.Found.the-variants.{Block as Held, NoBlock}
-use Rattle.words.specs.Words.{wordsOf, blockOf, isBlock, readOf}
-use Rattle.words.proofs.Reading.{found-block, found-none}
+use Rattle.words.specs.Words.{at, wordsOf, blockOf, isBlock, withReceived, setReceived}
+use Rattle.words.proofs.Back.{received-words}
 use Rattle.host.specs.Words.{setWords}
 use Rattle.receiving.specs.Rules.{Segment}
 use Rattle.receive.specs.declared.Length.{Length}
 use Rattle.receive.specs.Memory.{numberOfLength}
-use Rattle.kcp.specs.Calls.{peeksizeOf, RecvOut, recvOf, PushOut, pushOf}
+use Rattle.kcp.specs.Calls.{moveBufOf, peeksizeOf, RecvOut, recvOf, PushOut, pushOf}
+use Rattle.host_receive.proofs.Changes.{move-changes, recv-changes, push-changes}
 use Rattle.host_receive.specs.Words.{Called, lengthIn, WordsPeeked, WordsReceived, WordsPushed}
 
-module _ (l : List ℕ) {x : Found} (e : x ≡ readOf l) where
-  -- the words are no block
-  module _ (h : x ≡ NoBlock) where
+-- of t, which tells whether the words l are a block, the code asks whether it fails
+is-none : (l : List ℕ) {t : Bool} → t ≡ isBlock l → not t ≡ true → isBlock l ≡ false
+is-none l {t} e h = sym e ∙ not-true t h
+
+pub is-held : (l : List ℕ) {t : Bool} → t ≡ isBlock l → not t ≡ false → isBlock l ≡ true
+is-held l {t} e h = sym e ∙ not-false t h
+
+module _ (l : List ℕ) {t : Bool} (e : t ≡ isBlock l) where
+  -- they are none
+  module _ (h : not t ≡ true) where
     none : isBlock l ≡ false
-    none = found-none l e h
+    none = is-none l e h
 
     words-stay : (f : Kcp → Kcp) → l ≡ setWords f l
     unfolding setWords
@@ -54,13 +61,13 @@ module _ (l : List ℕ) {x : Found} (e : x ≡ readOf l) where
     }
 
   -- they are the block b
-  module _ {b : Kcp} (h : x ≡ Held b) where
-    held : (isBlock l ≡ true) × (b ≡ blockOf l)
-    held = found-block l e h
+  module _ {b : Kcp} (h : not t ≡ false) (held : b ≡ blockOf l) where
+    is : isBlock l ≡ true
+    is = is-held l e h
 
     -- what a function of the block gives
     gives : {A : Type 0} (f : Kcp → A) (z : A) → f b ≡ pick (isBlock l) (f (blockOf l)) z
-    gives f z = ap f (held .1) ∙ sym (pick-true _ _ (held .0))
+    gives f z = ap f held ∙ sym (pick-true _ _ is)
 
     words-set : (f : Kcp → Kcp) {a : List ℕ} → a ≡ wordsOf (f b) → a ≡ setWords f l
     unfolding setWords
@@ -78,21 +85,33 @@ module _ (l : List ℕ) {x : Found} (e : x ≡ readOf l) where
       length = d ∙ ap (lengthIn n) q ∙ gives (λ k. lengthIn n (peeksizeOf k p)) n;
     }
 
-    pub received : (p : Lists) (buf : List ℕ) (n : ℕ) (o : RecvOut) {r n′ : ℕ} {a : List ℕ} → o ≡ recvOf b p buf
-        → a ≡ wordsOf (o .block) → r ≡ numberOfLength (o .answer) → n′ ≡ lengthIn n (o .answer) → WordsReceived p buf l n r (o .pool) (o .buf) a n′
-    received p buf n o q w c d = record {
+    -- of a call that leaves the block x, those words alone are written that it can change
+    written : ((i : ℕ) → at l i < 4294967296) → (f : Kcp → Kcp) (x : Kcp) {a : List ℕ} → f b ≡ withReceived b (f b) → x ≡ f b → a ≡ setReceived x l → a ≡ setWords f l
+    written w f x c q r =
+        let same : x ≡ withReceived (blockOf l) x = rw (q, ← held) c in
+        words-set f (r ∙ received-words l x is w same ∙ ap wordsOf q)
+
+    pub moved : ((i : ℕ) → at l i < 4294967296) → (p : Lists) {s : Set} {r : ℕ} {a : List ℕ} → s ≡ moveBufOf b p → a ≡ setReceived (s .block) l → r ≡ numberOfAnswer (s .answer) → Called (λ k. moveBufOf k p) l r a
+    moved w p {s} q v n = record {
+      refusal = n ∙ ap (λ (s : Set). numberOfAnswer (s .answer)) q ∙ gives (λ k. numberOfAnswer (moveBufOf k p .answer)) 15;
+      words = written w (λ k. moveBufOf k p .block) (s .block) (move-changes b p) (ap (λ (s : Set). s .block) q) v;
+    }
+
+    pub received : ((i : ℕ) → at l i < 4294967296) → (p : Lists) (buf : List ℕ) (n : ℕ) (o : RecvOut) {r n′ : ℕ} {a : List ℕ} → o ≡ recvOf b p buf
+        → a ≡ setReceived (o .block) l → r ≡ numberOfLength (o .answer) → n′ ≡ lengthIn n (o .answer) → WordsReceived p buf l n r (o .pool) (o .buf) a n′
+    received w p buf n o q v c d = record {
       refusal = c ∙ ap (λ (y : RecvOut). numberOfLength (y .answer)) q ∙ gives (λ k. numberOfLength (recvOf k p buf .answer)) 15;
-      words = words-set (λ k. recvOf k p buf .block) (w ∙ ap (λ (y : RecvOut). wordsOf (y .block)) q);
+      words = written w (λ k. recvOf k p buf .block) (o .block) (recv-changes b p buf) (ap (λ (y : RecvOut). y .block) q) v;
       pool = ap (λ (y : RecvOut). y .pool) q ∙ gives (λ k. recvOf k p buf .pool) p;
       buffer = ap (λ (y : RecvOut). y .buf) q ∙ gives (λ k. recvOf k p buf .buf) buf;
       length = d ∙ ap (λ (y : RecvOut). lengthIn n (y .answer)) q ∙ gives (λ k. lengthIn n (recvOf k p buf .answer)) n;
     }
 
-    pub pushed : (p : Lists) (acks waiting : List ℕ) (s : Segment) (ts n : ℕ) (o : PushOut) {r n′ : ℕ} {a : List ℕ} → o ≡ pushOf b p acks waiting s ts
-        → a ≡ wordsOf (o .block) → r ≡ numberOfAnswer (o .answer) → n′ ≡ o .skipped → WordsPushed p acks waiting s ts l n r (o .pool) (o .acks) a n′
-    pushed p acks waiting s ts n o q w c d = record {
+    pub pushed : ((i : ℕ) → at l i < 4294967296) → (p : Lists) (acks waiting : List ℕ) (s : Segment) (ts n : ℕ) (o : PushOut) {r n′ : ℕ} {a : List ℕ} → o ≡ pushOf b p acks waiting s ts
+        → a ≡ setReceived (o .block) l → r ≡ numberOfAnswer (o .answer) → n′ ≡ o .skipped → WordsPushed p acks waiting s ts l n r (o .pool) (o .acks) a n′
+    pushed w p acks waiting s ts n o q v c d = record {
       refusal = c ∙ ap (λ (y : PushOut). numberOfAnswer (y .answer)) q ∙ gives (λ k. numberOfAnswer (pushOf k p acks waiting s ts .answer)) 15;
-      words = words-set (λ k. pushOf k p acks waiting s ts .block) (w ∙ ap (λ (y : PushOut). wordsOf (y .block)) q);
+      words = written w (λ k. pushOf k p acks waiting s ts .block) (o .block) (push-changes b p acks waiting s ts) (ap (λ (y : PushOut). y .block) q) v;
       pool = ap (λ (y : PushOut). y .pool) q ∙ gives (λ k. pushOf k p acks waiting s ts .pool) p;
       list = ap (λ (y : PushOut). y .acks) q ∙ gives (λ k. pushOf k p acks waiting s ts .acks) acks;
       skips = d ∙ ap (λ (y : PushOut). y .skipped) q ∙ gives (λ k. pushOf k p acks waiting s ts .skipped) n;

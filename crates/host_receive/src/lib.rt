@@ -6,7 +6,6 @@ ghost use Rattle.receive.specs.Memory.{numberOfLength};
 ghost use Rattle.kcp.specs.Calls.{moveBufOf, setWndsizeOf};
 ghost use Rattle.host_receive.specs.Words.{Called, lengthIn, WordsPeeked, WordsReceived, WordsPushed};
 use receive::Length;
-use words::Found;
 
 // The number of an answer's refusal, or 0.
 fn number_of(answer: Length) -> u32
@@ -32,12 +31,12 @@ fn length_in(n: usize, answer: Length) -> usize
 pub fn move_buf(words: &mut [u32], order: &[u32], records: &[u32], room: &[u8]) -> u32
     ensures { λ r. ⌜ Called (λ k. moveBufOf k (lists (now (order .entry)) (now (records .entry)) (now (room .entry)))) (now (words .entry)) r (now (words .exit)) ⌝ }
 {
-    let found = words::read(words);
-    let Found::Block { block } = found else {
+    if !words::is_block(words) {
         return 15;
-    };
+    }
+    let block = words::block(words);
     let out = kcp::move_buf(block, order, records, room);
-    words::write(out.block, words);
+    words::write_received(out.block, words);
     let answer = out.answer;
     answer.number()
 }
@@ -53,10 +52,10 @@ pub fn set_wndsize(
 ) -> u32
     ensures { λ r. ⌜ Called (λ k. setWndsizeOf k (lists (now (order .entry)) (now (records .entry)) (now (room .entry))) sndwnd rcvwnd) (now (words .entry)) r (now (words .exit)) ⌝ }
 {
-    let found = words::read(words);
-    let Found::Block { block } = found else {
+    if !words::is_block(words) {
         return 15;
-    };
+    }
+    let block = words::block(words);
     let out = kcp::set_wndsize(block, sndwnd, rcvwnd, order, records, room);
     words::write(out.block, words);
     let answer = out.answer;
@@ -73,10 +72,10 @@ pub fn peeksize(
 ) -> u32
     ensures { λ r. ⌜ WordsPeeked (lists (now (order .entry)) (now (records .entry)) (now (room .entry))) (now (words .entry)) (now (length .entry)) r (now (length .exit)) ⌝ }
 {
-    let found = words::read(words);
-    let Found::Block { block } = found else {
+    if !words::is_block(words) {
         return 15;
-    };
+    }
+    let block = words::block(words);
     let answer = kcp::peeksize(block, order, records, room);
     *length = length_in(*length, answer);
     number_of(answer)
@@ -94,12 +93,12 @@ pub fn recv(
     ensures { λ r. ⌜ WordsReceived (lists (now (order .entry)) (now (records .entry)) (now (room .entry))) (now (buf .entry)) (now (words .entry)) (now (length .entry)) r
         (lists (now (order .exit)) (now (records .entry)) (now (room .entry))) (now (buf .exit)) (now (words .exit)) (now (length .exit)) ⌝ }
 {
-    let found = words::read(words);
-    let Found::Block { block } = found else {
+    if !words::is_block(words) {
         return 15;
-    };
+    }
+    let block = words::block(words);
     let out = kcp::recv(block, order, records, room, buf);
-    words::write(out.block, words);
+    words::write_received(out.block, words);
     let answer = out.answer;
     *length = length_in(*length, answer);
     number_of(answer)
@@ -122,10 +121,10 @@ pub fn push(
     ensures { λ r. ⌜ WordsPushed (lists (now (order .entry)) (now (records .entry)) (now (room .entry))) (now (acks .entry)) (now (waiting .entry)) (record { sn = sn; frg = frg; payload = now (payload .entry) }) ts
         (now (words .entry)) (now (skipped .entry)) r (lists (now (order .exit)) (now (records .exit)) (now (room .exit))) (now (acks .exit)) (now (words .exit)) (now (skipped .exit)) ⌝ }
 {
-    let found = words::read(words);
-    let Found::Block { block } = found else {
+    if !words::is_block(words) {
         return 15;
-    };
+    }
+    let block = words::block(words);
     let out = kcp::push(
         block,
         order,
@@ -138,7 +137,7 @@ pub fn push(
         ts,
         payload,
     );
-    words::write(out.block, words);
+    words::write_received(out.block, words);
     *skipped = out.skipped;
     let answer = out.answer;
     answer.number()

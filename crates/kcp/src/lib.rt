@@ -48,8 +48,7 @@ pub fn move_buf(block: Kcp, order: &[u32], records: &[u32], room: &[u8]) -> Set
     ensures { λ r. ⌜ Promised (moveBufOf block (lists (now (order .entry)) (now (records .entry)) (now (room .entry))))
         (pick (receiveFits block (lists (now (order .entry)) (now (records .entry)) (now (room .entry)))) 0 15) r ⌝ }
 {
-    let mut marks = [0u8; 1024];
-    if !receive::well_formed(block, order, records, room, &mut marks) {
+    if !receive::fits(block, order, records, room) {
         return bad_pool(block);
     }
     let receiver = receive::move_buf(block.receiver, order, records);
@@ -70,8 +69,7 @@ fn no_length(why: Refusal) -> Length
 pub fn peeksize(block: Kcp, order: &[u32], records: &[u32], room: &[u8]) -> Length
     ensures { λ r. ⌜ Peeked block (lists (now (order .entry)) (now (records .entry)) (now (room .entry))) r ⌝ }
 {
-    let mut marks = [0u8; 1024];
-    if !receive::well_formed(block, order, records, room, &mut marks) {
+    if !receive::fits(block, order, records, room) {
         return no_length(Refusal::BadPool);
     }
     receive::peeksize(block.receiver, order, records)
@@ -82,8 +80,7 @@ pub fn recv(block: Kcp, order: &mut [u32], records: &[u32], room: &[u8], buf: &m
     ensures { λ r. ⌜ Receives block (lists (now (order .entry)) (now (records .entry)) (now (room .entry))) (now (buf .entry))
         (record { block = r .block; answer = r .answer; pool = lists (now (order .exit)) (now (records .entry)) (now (room .entry)); buf = now (buf .exit) }) ⌝ }
 {
-    let mut marks = [0u8; 1024];
-    if !receive::well_formed(block, order, records, room, &mut marks) {
+    if !receive::fits(block, order, records, room) {
         return Received {
             block: block,
             answer: no_length(Refusal::BadPool),
@@ -112,8 +109,7 @@ pub fn set_wndsize(
     ensures { λ r. ⌜ Promised (setWndsizeOf block (lists (now (order .entry)) (now (records .entry)) (now (room .entry))) sndwnd rcvwnd)
         (wndsizeNumber block (lists (now (order .entry)) (now (records .entry)) (now (room .entry))) rcvwnd) r ⌝ }
 {
-    let mut marks = [0u8; 1024];
-    if !receive::well_formed(block, order, records, room, &mut marks) {
+    if !receive::fits(block, order, records, room) {
         return bad_pool(block);
     }
     receive::set_wndsize(block, order.len(), sndwnd, rcvwnd)

@@ -2,26 +2,29 @@
 use Prim.Native.Nat.{ℕ, suc, _+_, _*_, _^_, _≤_, _<_}
 use native.Mathlib.Omega.{arith}
 use mathlib.Core.Path.{_≡_, refl, sym, ap, _∙_, subst}
-use mathlib.Core.Bool.{Bool, true, false, _&&_}
+use mathlib.Core.Bool.{Bool, true, false, not, _&&_}
 use mathlib.Core.List.{List, [], _∷_}
 use lib.ListN.{length, take, getD, replicate, length-map}
+use borrow.Author.Tests.{not-true, not-false}
 use Rattle.lent.proofs.Regions.{region-length, region-at}
 use Rattle.slots.specs.Entries.{slotOf}
 use Rattle.slots.specs.Marks.{marked}
 use Rattle.slots.specs.Pool.{Lists, Pool, tested, wellFormed}
 use Rattle.slots.proofs.Marking.{marked-length}
-use Rattle.slots.proofs.Pools.{well-pool, pool-well, well-is, tested-marks, unlike}
+use Rattle.slots.proofs.Pools.{well-pool, pool-well, tested-marks}
 use Rattle.slots.proofs.Views.{record-in}
 use Rattle.block.specs.declared.receiver.Receiver.{Receiver}
 use Rattle.block.specs.declared.Kcp.{Kcp}
 use Rattle.block.specs.Sizes.{Within, receiveSizes, PoolSizes}
 use Rattle.block.specs.WellFormed.{ReceiverFits, ownNumbers, OwnNumbers, receiveNumbers}
 use Rattle.block.proofs.Exact.{Exactly, exactly-le, exactly-both, exactly-as, pool-sizes, own-numbers}
+use Rattle.block.proofs.Together.{goes, stops}
 use Rattle.receiving.specs.Rules.{Segment, numbers, rises, Ordered, WellFormed}
-use Rattle.receiving.proofs.Laws.{rises-ordered, ordered-rises, ordered-length}
+use Rattle.receiving.proofs.Laws.{and-left, rises-ordered, ordered-rises, ordered-length}
 use Rattle.receive.specs.Memory.{seen, inUse, heldNumbers}
-use Rattle.receive.specs.Fits.{receiveFits, ReceiveFits, Good, Marked}
+use Rattle.receive.specs.Fits.{receiveFits, ReceiveFits, Lies, Good, Marked}
 use Rattle.receive.proofs.Seen.{held-numbers, seen-queued, seen-held}
+use Rattle.receive.proofs.Steps.{pool-lies}
 
 module _ (k : Kcp) (p : Lists) where
   pub exactly : Exactly (receiveFits k p) (ReceiveFits k p)
@@ -87,29 +90,37 @@ good-receiver r p good =
 
 -- ---- the test as the code makes it: one part after the other
 
+grouped : (a b c d : Bool) → (a && (b && (c && d))) ≡ ((a && (b && c)) && d)
+grouped true true c d = refl
+grouped true false c d = refl
+grouped false b c d = refl
+
 module _ (k : Kcp) (p : Lists) where
-  pub no-sizes : receiveSizes (length (p .order)) (length (p .records)) (length (p .room)) ≡ false → false ≡ receiveFits k p
+  abbrev numbersFit : Bool
+  numbersFit = receiveSizes (length (p .order)) (length (p .records)) (length (p .room)) && (ownNumbers k && receiveNumbers (length (p .order)) (k .receiver))
+
+  parted : receiveFits k p ≡ (numbersFit && (wellFormed 2 (inUse (k .receiver)) p && rises (k .receiver .«rcv_nxt») 0 (k .receiver .largest) (heldNumbers (k .receiver) p)))
   unfolding receiveFits
-  no-sizes h = rw h
+  parted =
+      grouped (receiveSizes (length (p .order)) (length (p .records)) (length (p .room))) (ownNumbers k) (receiveNumbers (length (p .order)) (k .receiver))
+      (wellFormed 2 (inUse (k .receiver)) p && rises (k .receiver .«rcv_nxt») 0 (k .receiver .largest) (heldNumbers (k .receiver) p))
 
-  module _ (a : receiveSizes (length (p .order)) (length (p .records)) (length (p .room)) ≡ true) where
-    pub no-numbers : ownNumbers k ≡ false → false ≡ receiveFits k p
-    unfolding receiveFits
-    no-numbers h = rw (a, h)
+  pub no-numbers : {t : Bool} → t ≡ numbersFit → not t ≡ true → false ≡ receiveFits k p
+  no-numbers {t} a h = stops _ (sym a ∙ not-true t h) ∙ sym parted
 
-    module _ (b : ownNumbers k ≡ true) where
-      pub no-twice : receiveNumbers (length (p .order)) (k .receiver) ≡ false → false ≡ receiveFits k p
-      unfolding receiveFits
-      no-twice h = rw (a, b, h)
+  module _ {t : Bool} (a : t ≡ numbersFit) (b : not t ≡ false) where
+    pub few-slots : length (p .order) ≤ 1024
+    few-slots = pool-sizes 256 1024 2 (length (p .order)) (length (p .records)) (length (p .room)) .holds (and-left _ _ (sym a ∙ not-false t b)) .slots .high
 
-      module _ (c : receiveNumbers (length (p .order)) (k .receiver) ≡ true) (t : Bool) (d : (t ≡ true → Pool 2 (inUse (k .receiver)) p) × (Pool 2 (inUse (k .receiver)) p → t ≡ true)) where
-        pub no-pool : t ≡ false → false ≡ receiveFits k p
-        unfolding receiveFits
-        no-pool h = rw (a, b, c, sym (well-is 2 (inUse (k .receiver)) p t d) ∙ h)
+    module _ {u : Bool} (d : u ≡ wellFormed 2 (inUse (k .receiver)) p) where
+      pub no-pool : not u ≡ true → false ≡ receiveFits k p
+      no-pool h = stops _ (sym d ∙ not-true u h) ∙ goes _ (sym a ∙ not-false t b) ∙ sym parted
 
-        pub all-but : t ≡ true → (r : Bool) → r ≡ rises (k .receiver .«rcv_nxt») 0 (k .receiver .largest) (heldNumbers (k .receiver) p) → r ≡ receiveFits k p
-        unfolding receiveFits
-        all-but h r e = rw (a, b, c, sym (well-is 2 (inUse (k .receiver)) p t d) ∙ h) e
+      pub pool-lying : not u ≡ false → Lies (k .receiver) (p .order) (p .records)
+      pool-lying h = pool-lies (k .receiver) p (well-pool 2 (inUse (k .receiver)) p (sym d ∙ not-false u h))
+
+      pub all-but : not u ≡ false → (r : Bool) → r ≡ rises (k .receiver .«rcv_nxt») 0 (k .receiver .largest) (heldNumbers (k .receiver) p) → r ≡ receiveFits k p
+      all-but h r e = e ∙ goes _ (sym d ∙ not-false u h) ∙ goes _ (sym a ∙ not-false t b) ∙ sym parted
 
 -- the marks that the test left
 pub marks-of : (r : Receiver) (p : Lists) (m m′ : List ℕ) → Pool 2 (inUse r) p → length (p .order) ≤ length m → m ≡ replicate (length m) 0 → m′ ≡ tested 2 (inUse r) p m → Marked r (p .order) m′

@@ -1,7 +1,7 @@
 // The receive side in lent memory: the push part of input, `move_buf`, peeksize and recv, and the window setter. Each requires that the memory
 // is well formed; the public calls test that and then act.
 ghost use mathlib.Core.Path.{_≡_};
-ghost use mathlib.Core.Bool.{true};
+ghost use mathlib.Core.Bool.{true, _&&_};
 ghost use mathlib.Core.List.{[], _∷_};
 ghost use Prim.Native.Nat.{ℕ, _+_, _-_, _<_, _≤_, max};
 ghost use lib.ListN.{length, replicate};
@@ -9,9 +9,11 @@ ghost use Rattle.serial.specs.Window.{inWindow};
 ghost use Rattle.lent.specs.Records.{put};
 ghost use Rattle.slots.specs.Entries.{total};
 ghost use Rattle.slots.specs.Pool.{lists, lengthsAt, Pool};
-ghost use Rattle.receiving.specs.Rules.{expects, joined, tooLarge};
+ghost use Rattle.block.specs.Sizes.{receiveSizes};
+ghost use Rattle.block.specs.WellFormed.{ownNumbers, receiveNumbers};
+ghost use Rattle.receiving.specs.Rules.{rises, expects, joined, tooLarge};
 ghost use Rattle.receiving.specs.Numbers.{payloadsAt};
-ghost use Rattle.receive.specs.Memory.{side, movedBy, moveBufAt, placeAt, putIn, storedAt, movedAt, PushedAs, inUse, lengthAnswer, peekAt, freedAt, HandedAs, tellBit, told, probeAt, sendWindow, receiveWindow, windowsAt};
+ghost use Rattle.receive.specs.Memory.{side, heldNumbers, movedBy, moveBufAt, placeAt, putIn, storedAt, movedAt, PushedAs, inUse, lengthAnswer, peekAt, freedAt, HandedAs, tellBit, told, probeAt, sendWindow, receiveWindow, windowsAt};
 ghost use Rattle.receive.specs.Fits.{Lies, Good, Marked, receiveFits};
 use block::Kcp;
 use block::acklist::AckList;
@@ -422,7 +424,51 @@ pub fn set_wndsize(block: Kcp, slots: usize, sndwnd: u16, rcvwnd: u16) -> Set
     }
 }
 
-// Whether block and receive pool are well formed. Where they are, the slots in use are marked.
+// Whether the numbers of the block fit, and receive memory of these lengths.
+fn numbers_fit(block: Kcp, slots: usize, records: usize, room: usize) -> bool
+    ensures { λ r. ⌜ r ≡ (receiveSizes slots records room && (ownNumbers block && receiveNumbers slots (block .receiver))) ⌝ }
+{
+    if !receive_sizes(slots, records, room) {
+        return false;
+    }
+    if !block.own_numbers() {
+        return false;
+    }
+    block.receiver.receive_numbers(slots)
+}
+
+// Whether the held numbers rise, in a pool that is well formed.
+fn held_rise(receiver: Receiver, order: &[u32], records: &[u32]) -> bool
+    requires { ⌜ Lies receiver (now order) (now records) ⌝ }
+    ensures { λ r. ⌜ r ≡ rises (receiver .«rcv_nxt») 0 (receiver .largest) (heldNumbers receiver (lists (now (order .entry)) (now (records .entry)) [])) ⌝ }
+{
+    receiving::rising(
+        order,
+        records,
+        receiver.queued as usize,
+        receiver.held as usize,
+        receiver.rcv_nxt,
+        receiver.largest as u32,
+    )
+}
+
+// Whether block and receive pool are well formed.
+pub fn fits(block: Kcp, order: &[u32], records: &[u32], room: &[u8]) -> bool
+    ensures { λ r. ⌜ r ≡ receiveFits block (lists (now (order .entry)) (now (records .entry)) (now (room .entry))) ⌝ }
+    ensures { λ r. ⌜ (r ≡ true → Good (block .receiver) (lists (now (order .entry)) (now (records .entry)) (now (room .entry)))) ⌝ }
+{
+    if !numbers_fit(block, order.len(), records.len(), room.len()) {
+        return false;
+    }
+    let receiver = block.receiver;
+    let n = receiver.queued as usize + receiver.held as usize;
+    if !slots::sound(order, records, room, Kcp::RCV_RECORD, n) {
+        return false;
+    }
+    held_rise(receiver, order, records)
+}
+
+// The same, and where it is so, the slots in use are marked.
 pub fn well_formed(
     block: Kcp,
     order: &[u32],
@@ -436,28 +482,13 @@ pub fn well_formed(
     ensures { λ r. ⌜ (r ≡ true → Good (block .receiver) (lists (now (order .entry)) (now (records .entry)) (now (room .entry)))) ⌝ }
     ensures { λ r. ⌜ (r ≡ true → Marked (block .receiver) (now (order .entry)) (now (marks .exit))) ⌝ }
 {
-    let slots = order.len();
-    if !receive_sizes(slots, records.len(), room.len()) {
-        return false;
-    }
-    if !block.own_numbers() {
+    if !numbers_fit(block, order.len(), records.len(), room.len()) {
         return false;
     }
     let receiver = block.receiver;
-    if !receiver.receive_numbers(slots) {
+    let n = receiver.queued as usize + receiver.held as usize;
+    if !slots::well_formed(order, records, room, Kcp::RCV_RECORD, n, marks) {
         return false;
     }
-    let queued = receiver.queued as usize;
-    let held = receiver.held as usize;
-    if !slots::well_formed(order, records, room, Kcp::RCV_RECORD, queued + held, marks) {
-        return false;
-    }
-    receiving::rising(
-        order,
-        records,
-        queued,
-        held,
-        receiver.rcv_nxt,
-        receiver.largest as u32,
-    )
+    held_rise(receiver, order, records)
 }

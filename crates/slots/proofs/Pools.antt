@@ -13,8 +13,8 @@ use Rattle.slots.specs.Marks.{marked, repeats, firstFree}
 use Rattle.lent.specs.Order.{orderIn, orderOut, orderFrom}
 use Rattle.lent.specs.Records.{stored}
 use Rattle.slots.specs.Pool.{Lists, lists, segment, Pool, fits, wellFormed, tested, placed, takenOut, dropped, longer, filled, renewed}
-use Rattle.slots.proofs.Totals.{slots-below}
-use Rattle.slots.proofs.Marking.{none-twice, none-repeated, first-lowest}
+use Rattle.slots.proofs.Totals.{few-once, slots-below}
+use Rattle.slots.proofs.Marking.{zeros as zeros-length, none-twice, none-repeated, first-lowest}
 
 -- ---- the test
 
@@ -119,6 +119,19 @@ module _ (w n : ℕ) (p : Lists) where
       go : (b : Bool) → wellFormed w n p ≡ b → false ≡ b
       go true t = e .1 (well-pool t)
       go false t = refl
+
+  -- `sound`: what does not fit, what has fewer than two entries, and what is marked from 0 on
+  pub well-unfit : fits w n p ≡ false → false ≡ wellFormed w n p
+  unfolding wellFormed
+  well-unfit bad = rw bad
+
+  pub well-few : fits w n p ≡ true → n < 2 → true ≡ wellFormed w n p
+  well-few good h = sym (pool-well (pool-of good (λ s. few-once s (take n (p .order)) (let e = length-take-le n (p .order) (fits-many good) in omega arith))))
+
+  pub well-marked : (k r : ℕ) → fits w n p ≡ true → length (p .order) ≤ k → r ≡ repeats (replicate k 0) (take n (p .order)) → eqb r 0 ≡ wellFormed w n p
+  well-marked k r good h e =
+      let l = length-replicate {A = ℕ} k 0 in
+      well-is (eqb r 0) (judged (replicate k 0) r good (omega arith) (zeros-length k) e)
 
   -- the marks of a well-formed pool, and the lowest free slot by them
   pub tested-marks : (m : List ℕ) → Pool w n p → tested w n p m ≡ marked m (take n (p .order))

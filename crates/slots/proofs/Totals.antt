@@ -4,7 +4,7 @@ use Prim.Native.Nat.{ℕ, zero, suc, _+_, _≤_, _<_}
 use native.Mathlib.Nat.{le-of-suc-le-suc, not-suc-le-zero}
 use native.Mathlib.Omega.{arith}
 use native.Mathlib.Numerals.{add-one}
-use native.Mathlib.Decide.{decLt, decLe}
+use native.Mathlib.Decide.{ℕ-discrete, decLt, decLe}
 use mathlib.Core.List.{List, [], _∷_, _++_}
 use lib.ListN.{length, take, drop, getD, set, take-append-drop}
 use lib.Seq.{drop-cons, take-suc}
@@ -93,6 +93,16 @@ uses-own s e l h = let a = uses-cons s e l in let b = in-own s e h in omega arit
 
 pub uses-other : (s e : ℕ) (l : List ℕ) → (slotOf e ≡ s → ⊥) → uses s (e ∷ l) ≡ uses s l
 uses-other s e l h = let a = uses-cons s e l in let b = in-other s e h in omega arith
+
+-- fewer than two entries use each slot at most once
+pub few-once : (s : ℕ) (l : List ℕ) → length l < 2 → uses s l ≤ 1
+few-once s [] h = let a = uses-none s in omega arith
+few-once s (e ∷ []) h = go (ℕ-discrete (slotOf e) s) (uses-none s)
+  where
+    go : Dec (slotOf e ≡ s) → uses s [] ≡ 0 → uses s (e ∷ []) ≤ 1
+    go (yes q) z = let a = uses-own s e [] q in omega arith
+    go (no n) z = let a = uses-other s e [] n in omega arith
+few-once s (e ∷ f ∷ l) h = absurd (omega arith)
 
 -- ---- the entries at fault
 

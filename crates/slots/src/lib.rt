@@ -6,7 +6,7 @@ ghost use lib.ListN.{length, take, getD, set, replicate};
 ghost use Rattle.slots.specs.Entries.{entryOf, slotOf, lengthOf, fault, faults};
 ghost use Rattle.slots.specs.Marks.{marked, repeats, firstFree};
 ghost use Rattle.lent.specs.Records.{stored};
-ghost use Rattle.slots.specs.Pool.{lists, segment, Pool, fits, tested, placed, longer};
+ghost use Rattle.slots.specs.Pool.{lists, segment, Pool, fits, wellFormed, tested, placed, longer};
 
 // The entry of a slot whose payload has the length.
 pub fn entry_of(slot: usize, length: usize) -> u32
@@ -122,6 +122,22 @@ pub fn well_formed(
         return false;
     }
     mark(order, n, marks) == 0
+}
+
+// Whether the pool is well formed. Fewer than two entries name no slot twice, and so only more are marked.
+pub fn sound(order: &[u32], records: &[u32], room: &[u8], width: usize, n: usize) -> bool
+    requires { ⌜ width ≤ 64 ⌝ }
+    requires { ⌜ length (now order) ≤ 1024 ⌝ }
+    ensures { λ r. ⌜ r ≡ wellFormed width n (lists (now (order .entry)) (now (records .entry)) (now (room .entry))) ⌝ }
+{
+    if !fitting(order, records, room, width, n) {
+        return false;
+    }
+    if n < 2 {
+        return true;
+    }
+    let mut marks = [0u8; 1024];
+    mark(order, n, &mut marks) == 0
 }
 
 // Whether the 16 marks from index i on are all set.

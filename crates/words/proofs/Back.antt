@@ -8,7 +8,7 @@ use lib.Dec.{eqb}
 use lib.ListN.{length, drop, drop-of-length-le}
 use lib.Seq.{drop-cons}
 use Rattle.block.specs.declared.Kcp.{Kcp}
-use Rattle.words.specs.Words.{bit, firstWords, lastWords, wordsOf, at, blockOf, isBlock}
+use Rattle.words.specs.Words.{bit, firstWords, lastWords, wordsOf, at, blockOf, isBlock, withReceived, setReceived}
 use Rattle.words.proofs.Tests.{Shorts, Flags, exactly-block}
 
 -- ---- a block's words
@@ -74,3 +74,14 @@ words-back l h w =
     let f : Flags l = e .1 .1 in
     let all : spread l 0 40 ≡ l = spread-drop l 0 40 (sym (e .0)) in
     rw (flag-bit (at l 3) (f .0), flag-bit (at l 21) (f .1 .0), flag-bit (at l 22) (f .1 .1 .0), flag-bit (at l 30) (f .1 .1 .1 .0), flag-bit (at l 31) (f .1 .1 .1 .1 .0), flag-bit (at l 32) (f .1 .1 .1 .1 .1), low-half (at l 26) (at l 27) (w 26), high-half (at l 26) (at l 27) (w 26)) all
+
+-- ---- the words that a push, a move or a recv can change
+
+set-words : (k x : Kcp) → setReceived x (wordsOf k) ≡ wordsOf (withReceived k x)
+unfolding setReceived wordsOf firstWords lastWords
+set-words k x = refl
+
+-- set in a block's words they are all the words of x, where x is the block with them changed
+pub received-words : (l : List ℕ) (x : Kcp) → isBlock l ≡ true → ((i : ℕ) → at l i < 4294967296) → x ≡ withReceived (blockOf l) x → setReceived x l ≡ wordsOf x
+received-words l x h w e =
+    ap (setReceived x) (sym (words-back l h w)) ∙ set-words (blockOf l) x ∙ sym (ap wordsOf e)

@@ -9,29 +9,25 @@ use Rattle.serial.specs.Branch.{pick, pick-true, pick-false}
 use Rattle.block.specs.declared.Kcp.{Kcp}
 use Rattle.words.specs.declared.Found.{Found}
 use Rattle.words.specs.declared.Found.the-variants.{Block, NoBlock}
-use Rattle.words.specs.Words.{shortWords, flagWords, isBlock, blockOf, readOf}
-use Rattle.words.proofs.Tests.{exactly-block}
-
--- the answer of a test of two parts
-pub ranged : {s f p q b t : Bool} → s ≡ p → f ≡ q → b ≡ (s && f) → b ≡ t → (p && q) ≡ t
-ranged e g h i = cc
+use Rattle.words.specs.Words.{shortWords, flagWords, isBlock, Short, blockOf, readOf}
+use Rattle.words.proofs.Tests.{exactly-block, short-facts}
 
 module _ (l : List ℕ) where
-  is-block : {t : Bool} → length l ≡ 40 → (shortWords l && flagWords l) ≡ t → isBlock l ≡ t
+  pub long : (length l ≡ 40 → ⊥) → false ≡ isBlock l
   unfolding isBlock
-  is-block h e = rw (eq-eqb (length l) 40 h) e
+  long h = rw (ne-eqb (length l) 40 h)
 
-  pub read-long : (length l ≡ 40 → ⊥) → NoBlock ≡ readOf l
-  unfolding readOf isBlock
-  read-long h = sym (pick-false (Block (blockOf l)) NoBlock (rw (ne-eqb (length l) 40 h)))
+  pub ranged : {s f b : Bool} → length l ≡ 40 → s ≡ shortWords l → f ≡ flagWords l → b ≡ (s && f) → b ≡ isBlock l
+  unfolding isBlock
+  ranged h p q e = rw (eq-eqb (length l) 40 h, e, p, q)
 
-  pub read-no : length l ≡ 40 → (shortWords l && flagWords l) ≡ false → NoBlock ≡ readOf l
+  pub read-no : {t : Bool} → t ≡ isBlock l → t ≡ false → NoBlock ≡ readOf l
   unfolding readOf
-  read-no h e = sym (pick-false (Block (blockOf l)) NoBlock (is-block h e))
+  read-no e h = sym (pick-false (Block (blockOf l)) NoBlock (sym e ∙ h))
 
-  pub read-yes : {k : Kcp} → length l ≡ 40 → (shortWords l && flagWords l) ≡ true → k ≡ blockOf l → Block k ≡ readOf l
+  pub read-yes : {t : Bool} {k : Kcp} → t ≡ isBlock l → t ≡ true → k ≡ blockOf l → Block k ≡ readOf l
   unfolding readOf
-  read-yes h e b = ap Block b ∙ sym (pick-true (Block (blockOf l)) NoBlock (is-block h e))
+  read-yes e h b = ap Block b ∙ sym (pick-true (Block (blockOf l)) NoBlock (sym e ∙ h))
 
 -- ---- what an answer of `read` says
 
@@ -56,3 +52,7 @@ module _ (l : List ℕ) {x : Found} where
 
 pub block-length : (l : List ℕ) → isBlock l ≡ true → length l ≡ 40
 block-length l h = exactly-block l .holds h .0
+
+-- what reading the block asks
+pub block-needs : (l : List ℕ) → isBlock l ≡ true → (length l ≡ 40) × Short l
+block-needs l h = (block-length l h, short-facts l (exactly-block l .holds h .1 .0))

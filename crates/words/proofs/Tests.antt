@@ -28,7 +28,7 @@ Shorts l = Under 65536 (at l 7) (at l 12) (at l 13) (at l 14) (at l 15) (at l 33
 abbrev pub Flags : List ℕ → Type 0
 Flags l = Under 2 (at l 3) (at l 21) (at l 22) (at l 30) (at l 31) (at l 32)
 
-pub exactly-ranges : (l : List ℕ) → Exactly (shortWords l && flagWords l) (Shorts l × Flags l)
+exactly-ranges : (l : List ℕ) → Exactly (shortWords l && flagWords l) (Shorts l × Flags l)
 exactly-ranges l =
     exactly-both
     (exactly-under 65536 (at l 7) (at l 12) (at l 13) (at l 14) (at l 15) (at l 33))
@@ -38,7 +38,6 @@ pub exactly-block : (l : List ℕ) → Exactly (isBlock l) ((length l ≡ 40) ×
 unfolding isBlock
 exactly-block l = exactly-both (exactly-eq (length l) 40) (exactly-ranges l)
 
-pub short-facts : (l : List ℕ) → (shortWords l && flagWords l) ≡ true → Short l
-short-facts l h =
-    let s : Shorts l = exactly-ranges l .holds h .0 in
+pub short-facts : (l : List ℕ) → Shorts l → Short l
+short-facts l s =
     record { ssthresh = s .0; snd = s .1 .0; rcv = s .1 .1 .0; rmt = s .1 .1 .1 .0; cwnd = s .1 .1 .1 .1 .0; largest = s .1 .1 .1 .1 .1 }

@@ -4,7 +4,7 @@ use Prim.Native.Nat.{ℕ, _+_, _*_, _/_, _%_, _<_, _^_}
 use mathlib.Core.Bool.{Bool, true, false, _&&_}
 use mathlib.Core.List.{List, [], _∷_, _++_}
 use lib.Dec.{ltb, eqb}
-use lib.ListN.{length, getD}
+use lib.ListN.{length, getD, set}
 use Rattle.serial.specs.Branch.{pick}
 use Rattle.estimator.specs.declared.Estimator.{Estimator}
 use Rattle.block.specs.declared.settings.Settings.{Settings}
@@ -15,6 +15,7 @@ use Rattle.block.specs.declared.receiver.Receiver.{Receiver}
 use Rattle.block.specs.declared.acklist.AckList.{AckList}
 use Rattle.block.specs.declared.sender.Sender.{Sender}
 use Rattle.block.specs.declared.Kcp.{Kcp}
+use Rattle.block.specs.Parts.{withProbe, withReceiver, withAckList}
 use Rattle.words.specs.declared.Found.{Found}
 use Rattle.words.specs.declared.Found.the-variants.{Block, NoBlock}
 
@@ -129,3 +130,19 @@ pub record Short (l : List ℕ) : Type 0 where
 -- what reading words answers
 unfoldable pub readOf : List ℕ → Found
 readOf l = pick (isBlock l) (Block (blockOf l)) NoBlock
+
+-- ---- the words that a push, a move or a recv can change
+
+-- the block k with those numbers as in the block x
+abbrev pub withReceived : Kcp → Kcp → Kcp
+withReceived k x =
+    withAckList
+    (withProbe
+    (withReceiver k (record { «rcv_nxt» = x .receiver .«rcv_nxt»; «rcv_wnd» = k .receiver .«rcv_wnd»; largest = k .receiver .largest; queued = x .receiver .queued; held = x .receiver .held }))
+    (record { bits = x .probe .bits; «ts_probe» = k .probe .«ts_probe»; «probe_wait» = k .probe .«probe_wait» }))
+    (record { acks = x .acklist .acks; waiting = k .acklist .waiting })
+
+-- the words l with them
+unfoldable pub setReceived : Kcp → List ℕ → List ℕ
+setReceived x l =
+    set (set (set (set (set l 6 (x .receiver .«rcv_nxt»)) 16 (x .probe .bits)) 34 (x .receiver .queued)) 35 (x .receiver .held)) 38 (x .acklist .acks)

@@ -3,7 +3,7 @@ ghost use mathlib.Core.Path.{_≡_};
 ghost use mathlib.Core.Bool.{_&&_, true};
 ghost use Prim.Native.Nat.{_+_, _*_, _/_, _%_};
 ghost use lib.ListN.{length};
-ghost use Rattle.words.specs.Words.{bit, under, shortWords, flagWords, Short, settingsOf, clockOf, estimatorOf, congestionOf, probeOf, receiverOf, acklistOf, senderOf, blockOf, readOf, firstWords, lastWords, wordsOf};
+ghost use Rattle.words.specs.Words.{bit, under, shortWords, flagWords, Short, settingsOf, clockOf, estimatorOf, congestionOf, probeOf, receiverOf, acklistOf, senderOf, blockOf, isBlock, readOf, firstWords, lastWords, wordsOf, setReceived};
 use block::Kcp;
 use block::acklist::AckList;
 use block::clock::Clock;
@@ -187,8 +187,18 @@ fn sender(words: &[u32]) -> Sender
     }
 }
 
+// Whether words are those of a block.
+pub fn is_block(words: &[u32]) -> bool
+    ensures { λ r. ⌜ r ≡ isBlock (now (words .entry)) ⌝ }
+{
+    if words.len() != 40 {
+        return false;
+    }
+    both(short_words(words), flag_words(words))
+}
+
 // The block in words.
-fn block(words: &[u32]) -> Kcp
+pub fn block(words: &[u32]) -> Kcp
     requires { ⌜ length (now words) ≡ 40 ⌝ }
     requires { ⌜ Short (now words) ⌝ }
     ensures { λ r. ⌜ r ≡ blockOf (now (words .entry)) ⌝ }
@@ -209,10 +219,7 @@ fn block(words: &[u32]) -> Kcp
 pub fn read(words: &[u32]) -> Found
     ensures { λ r. ⌜ r ≡ readOf (now (words .entry)) ⌝ }
 {
-    if words.len() != 40 {
-        return Found::NoBlock;
-    }
-    if both(short_words(words), flag_words(words)) {
+    if is_block(words) {
         return Found::Block {
             block: block(words),
         };
@@ -285,4 +292,16 @@ pub fn write(block: Kcp, words: &mut [u32])
     let last = last_words(block);
     lent::put_record(words, 0, &first);
     lent::put_record(words, 1, &last);
+}
+
+// Writes the words of a block that a push, a move or a recv can change.
+pub fn write_received(block: Kcp, words: &mut [u32])
+    requires { ⌜ length (now words) ≡ 40 ⌝ }
+    ensures { λ _. ⌜ now (words .exit) ≡ setReceived block (now (words .entry)) ⌝ }
+{
+    words[6] = block.receiver.rcv_nxt;
+    words[16] = block.probe.bits;
+    words[34] = block.receiver.queued;
+    words[35] = block.receiver.held;
+    words[38] = block.acklist.acks;
 }

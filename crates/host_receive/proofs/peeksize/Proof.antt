@@ -1,24 +1,22 @@
 -- `host_receive::peeksize` meets its contract: the law of words that are no block, and of those that are. Assumes nothing.
 use Rattle.slots.specs.Pool.{lists}
-use Rattle.host_receive.proofs.Laws.{peeked-none, peeked}
+use Rattle.words.proofs.Reading.{block-needs}
+use Rattle.host_receive.proofs.Laws.{is-held, peeked-none, peeked}
 use borrow.Author.Needs.{needs}
 use Rattle.host_receive.proofs.peeksize.Statement.{statement}
 use Rattle.host_receive.proofs.peeksize.Tie as tie
 
-read-requires : tie.Need-read-requires
-read-requires c κs = search needs
-
-enum-known-found : tie.Need-enum-known-found
-enum-known-found c = search needs
-
-enum-told : tie.Need-enum-told
-enum-told c = search needs
+is-block-requires : tie.Need-is-block-requires
+is-block-requires c κs = search needs
 
 returns : tie.Need-returns
 returns c =
-    let a = c .before .before .before .before .before .before .before .args in
+    let a = c .before .before .before .before .before .before .args in
     let p = lists (a .order .now) (a .records .now) (a .room .now) in
-    peeked-none _ (c .before .before .read .ensures) (c .enum-told .given .1) p (a .length .now)
+    peeked-none _ (c .before .is-block .ensures) (c .if1 .taken) p (a .length .now)
+
+block-requires : tie.Need-block-requires
+block-requires c κs = block-needs _ (is-held _ (c .before .is-block .ensures) (c .if1 .left))
 
 peeksize-requires : tie.Need-peeksize-requires
 peeksize-requires c κs = search needs
@@ -31,18 +29,17 @@ number-of-requires c κs = search needs
 
 returns-2 : tie.Need-returns-2
 returns-2 c =
-    let a = c .before .before .before .before .before .before .before .before .before .before .before .before .args in
+    let a = c .before .before .before .before .before .before .before .before .before .before .before .args in
     let p = lists (a .order .now) (a .records .now) (a .room .now) in
-    peeked _ (c .before .before .before .before .before .before .before .read .ensures) (c .before .before .before .before .before .found .given .1) p (a .length .now) (c .before .before .before .peeksize .ensures .is) (c .number-of .ensures) (c .before .length-in .ensures)
+    peeked _ (c .before .before .before .before .before .before .is-block .ensures) (c .before .before .before .before .before .if1 .left) (c .before .before .before .before .block .ensures) p (a .length .now) (c .before .before .before .peeksize .ensures .is) (c .number-of .ensures) (c .before .length-in .ensures)
 
 pub peeksize-spec : {M : Type 1} → statement M
 peeksize-spec =
     tie.close
     (tie.spec
-    read-requires
-    enum-known-found
-    enum-told
+    is-block-requires
     returns
+    block-requires
     peeksize-requires
     length-in-requires
     number-of-requires

@@ -1,34 +1,32 @@
 -- `host_receive::recv` meets its contract: the law of words that are no block, and of those that are. Assumes nothing.
+use native.Mathlib.Omega.{arith}
 use Rattle.slots.specs.Pool.{lists}
-use Rattle.host.proofs.Words.{held-length}
-use Rattle.host_receive.proofs.Laws.{received-none, received}
+use Rattle.words.proofs.Reading.{block-length, block-needs}
+use Rattle.host_receive.proofs.Laws.{is-held, received-none, received}
 use borrow.Author.Needs.{needs}
 use Rattle.host_receive.proofs.recv.Statement.{statement}
 use Rattle.host_receive.proofs.recv.Tie as tie
 
-read-requires : tie.Need-read-requires
-read-requires c κs = search needs
-
-enum-known-found : tie.Need-enum-known-found
-enum-known-found c = search needs
-
-enum-told : tie.Need-enum-told
-enum-told c = search needs
+is-block-requires : tie.Need-is-block-requires
+is-block-requires c κs = search needs
 
 same-length : tie.Need-same-length
 same-length c = search needs
 
 returns : tie.Need-returns
 returns c =
-    let a = c .before .before .before .before .before .before .before .before .before .args in
+    let a = c .before .before .before .before .before .before .before .before .args in
     let p = lists (a .order .now) (a .records .now) (a .room .now) in
-    received-none _ (c .before .before .read .ensures) (c .enum-told .given .1) p (a .buf .now) (a .length .now)
+    received-none _ (c .before .is-block .ensures) (c .if1 .taken) p (a .buf .now) (a .length .now)
+
+block-requires : tie.Need-block-requires
+block-requires c κs = block-needs _ (is-held _ (c .before .before .is-block .ensures) (c .before .if1 .left))
 
 recv-requires : tie.Need-recv-requires
 recv-requires c κs = search needs
 
-write-requires : tie.Need-write-requires
-write-requires c κs = held-length _ (c .before .before .before .before .before .before .before .before .before .before .before .read .ensures) (c .before .before .before .before .before .before .before .before .before .found .given .1)
+write-received-requires : tie.Need-write-received-requires
+write-received-requires c κs = block-length _ (is-held _ (c .before .before .before .before .before .before .before .before .before .before .before .is-block .ensures) (c .before .before .before .before .before .before .before .before .before .before .if1 .left))
 
 length-in-requires : tie.Need-length-in-requires
 length-in-requires c κs = search needs
@@ -49,19 +47,18 @@ returns-2 : tie.Need-returns-2
 returns-2 c =
     let a = c .before .before .before .before .before .before .before .before .before .before .before .before .before .before .before .before .before .before .before .before .before .before .before .before .args in
     let p = lists (a .order .now) (a .records .now) (a .room .now) in
-    received _ (c .before .before .before .before .before .before .before .before .before .before .before .before .before .before .before .before .before .read .ensures) (c .before .before .before .before .before .before .before .before .before .before .before .before .before .before .before .found .given .1) p (a .buf .now) (a .length .now) _ (c .before .before .before .before .before .before .before .before .before .before .before .recv .ensures .is) (c .before .before .before .before .before .write .ensures) (c .number-of .ensures) (c .before .length-in .ensures)
+    received _ (c .before .before .before .before .before .before .before .before .before .before .before .before .before .before .before .before .before .is-block .ensures) (c .before .before .before .before .before .before .before .before .before .before .before .before .before .before .before .before .if1 .left) (c .before .before .before .before .before .before .before .before .before .before .before .before .before .before .block .ensures) (λ i. omega (arith, c .before .before .before .before .before .before .before .before .before .before .before .before .before .before .before .before .before .before .before .before .before .before .before .slice-known .given i)) p (a .buf .now) (a .length .now) _ (c .before .before .before .before .before .before .before .before .before .before .before .recv .ensures .is) (c .before .before .before .before .before .write-received .ensures) (c .number-of .ensures) (c .before .length-in .ensures)
 
 pub recv-spec : {M : Type 1} → statement M
 recv-spec =
     tie.close
     (tie.spec
-    read-requires
-    enum-known-found
-    enum-told
+    is-block-requires
     same-length
     returns
+    block-requires
     recv-requires
-    write-requires
+    write-received-requires
     length-in-requires
     number-of-requires
     same-length-2

@@ -1,30 +1,27 @@
 -- `host_receive::set_wndsize` meets its contract: the law of words that are no block, and of those that are. Assumes nothing.
-use Rattle.host.proofs.Words.{held-length}
-use Rattle.host_receive.proofs.Laws.{called-none, called}
+use Rattle.words.proofs.Reading.{block-length, block-needs}
+use Rattle.host_receive.proofs.Laws.{is-held, called-none, called}
 use borrow.Author.Needs.{needs}
 use Rattle.host_receive.proofs.set_wndsize.Statement.{statement}
 use Rattle.host_receive.proofs.set_wndsize.Tie as tie
 
-read-requires : tie.Need-read-requires
-read-requires c κs = search needs
-
-enum-known-found : tie.Need-enum-known-found
-enum-known-found c = search needs
-
-enum-told : tie.Need-enum-told
-enum-told c = search needs
+is-block-requires : tie.Need-is-block-requires
+is-block-requires c κs = search needs
 
 same-length : tie.Need-same-length
 same-length c = search needs
 
 returns : tie.Need-returns
-returns c = called-none _ (c .before .before .read .ensures) (c .enum-told .given .1) _
+returns c = called-none _ (c .before .is-block .ensures) (c .if1 .taken) _
+
+block-requires : tie.Need-block-requires
+block-requires c κs = block-needs _ (is-held _ (c .before .before .is-block .ensures) (c .before .if1 .left))
 
 set-wndsize-requires : tie.Need-set-wndsize-requires
 set-wndsize-requires c κs = search needs
 
 write-requires : tie.Need-write-requires
-write-requires c κs = held-length _ (c .before .before .before .before .before .read .ensures) (c .before .before .before .found .given .1)
+write-requires c κs = block-length _ (is-held _ (c .before .before .before .before .before .is-block .ensures) (c .before .before .before .before .if1 .left))
 
 number-requires : tie.Need-number-requires
 number-requires c κs = search needs
@@ -33,17 +30,16 @@ same-length-2 : tie.Need-same-length-2
 same-length-2 c = search needs
 
 returns-2 : tie.Need-returns-2
-returns-2 c = called _ (c .before .before .before .before .before .before .before .before .before .read .ensures) (c .before .before .before .before .before .before .before .found .given .1) _ (c .before .before .before .before .before .set-wndsize .ensures .is) (c .before .before .before .write .ensures) (c .number .ensures)
+returns-2 c = called _ (c .before .before .before .before .before .before .before .before .before .is-block .ensures) (c .before .before .before .before .before .before .before .before .if1 .left) (c .before .before .before .before .before .before .block .ensures) _ (c .before .before .before .before .before .set-wndsize .ensures .is) (c .before .before .before .write .ensures) (c .number .ensures)
 
 pub set-wndsize-spec : {M : Type 1} → statement M
 set-wndsize-spec =
     tie.close
     (tie.spec
-    read-requires
-    enum-known-found
-    enum-told
+    is-block-requires
     same-length
     returns
+    block-requires
     set-wndsize-requires
     write-requires
     number-requires

@@ -8,45 +8,41 @@ use borrow.Author.Needs.{needs}
 use Rattle.kcp.proofs.move_buf.Statement.{statement}
 use Rattle.kcp.proofs.move_buf.Tie as tie
 
-slice-aggregate-well-formed : tie.Need-slice-aggregate-well-formed
-slice-aggregate-well-formed c = search needs
-
-well-formed-requires : tie.Need-well-formed-requires
-well-formed-requires c κs = search needs
+fits-requires : tie.Need-fits-requires
+fits-requires c κs = search needs
 
 bad-pool-requires : tie.Need-bad-pool-requires
 bad-pool-requires c κs = search needs
 
 returns : tie.Need-returns
 returns c =
-    let s = c .before .before .before .before .before .before .before .before in
+    let s = c .before .before .before .before .before .before in
     let a = s .args in
     let p = lists (a .order .now) (a .records .now) (a .room .now) in
-    unmoved (a .block) p (c .before .before .before .well-formed .ensures .0) (c .before .if1 .taken) _ (c .bad-pool .ensures)
+    unmoved (a .block) p (c .before .before .fits2 .ensures .0) (c .before .if1 .taken) _ (c .bad-pool .ensures)
 
 move-buf-requires : tie.Need-move-buf-requires
 move-buf-requires c κs =
-    let s = c .before .before .before .before .before .before .before in
+    let s = c .before .before .before .before .before in
     let a = s .args in
     let p = lists (a .order .now) (a .records .now) (a .room .now) in
-    pool-lies (a .block .receiver) p (c .before .before .well-formed .ensures .1 .0 (not-false _ (c .if1 .left)) .pool)
+    pool-lies (a .block .receiver) p (c .before .fits2 .ensures .1 (not-false _ (c .if1 .left)) .pool)
 
 with-receiver-requires : tie.Need-with-receiver-requires
 with-receiver-requires c κs = search needs
 
 returns-2 : tie.Need-returns-2
 returns-2 c =
-    let s = c .before .before .before .before .before .before .before .before .before in
+    let s = c .before .before .before .before .before .before .before in
     let a = s .args in
     let p = lists (a .order .now) (a .records .now) (a .room .now) in
-    moved (a .block) p (c .before .before .before .before .well-formed .ensures .0) (c .before .before .if1 .left) _ _ (c .before .move-buf .ensures ∙ move-any (a .block .receiver) (p .order) (p .records) (p .room)) (c .with-receiver .ensures)
+    moved (a .block) p (c .before .before .before .fits2 .ensures .0) (c .before .before .if1 .left) _ _ (c .before .move-buf .ensures ∙ move-any (a .block .receiver) (p .order) (p .records) (p .room)) (c .with-receiver .ensures)
 
 pub move-buf-spec : {M : Type 1} → statement M
 move-buf-spec =
     tie.close
     (tie.spec
-    slice-aggregate-well-formed
-    well-formed-requires
+    fits-requires
     bad-pool-requires
     returns
     move-buf-requires

@@ -6,11 +6,8 @@ use borrow.Author.Needs.{needs}
 use Rattle.kcp.proofs.recv.Statement.{statement}
 use Rattle.kcp.proofs.recv.Tie as tie
 
-slice-aggregate-well-formed : tie.Need-slice-aggregate-well-formed
-slice-aggregate-well-formed c = search needs
-
-well-formed-requires : tie.Need-well-formed-requires
-well-formed-requires c κs = search needs
+fits-requires : tie.Need-fits-requires
+fits-requires c κs = search needs
 
 no-length-requires : tie.Need-no-length-requires
 no-length-requires c κs = search needs
@@ -20,13 +17,13 @@ same-length c = search needs
 
 returns : tie.Need-returns
 returns c =
-    let s = c .before .before .before .before .before .before .before .before .before .before in
+    let s = c .before .before .before .before .before .before .before .before in
     let a = s .args in
     let p = lists (a .order .now) (a .records .now) (a .room .now) in
-    unreceived (a .block) p (c .before .before .before .well-formed .ensures .0) (c .before .if1 .taken) (a .buf .now) _ (c .no-length .ensures)
+    unreceived (a .block) p (c .before .before .fits2 .ensures .0) (c .before .if1 .taken) (a .buf .now) _ (c .no-length .ensures)
 
 recv-requires : tie.Need-recv-requires
-recv-requires c κs = c .before .before .before .before .before .well-formed .ensures .1 .0 (not-false _ (c .before .before .before .if1 .left)) .pool
+recv-requires c κs = c .before .before .before .before .fits2 .ensures .1 (not-false _ (c .before .before .before .if1 .left)) .pool
 
 recovered-requires : tie.Need-recovered-requires
 recovered-requires c κs = search needs
@@ -45,17 +42,16 @@ same-length-3 c = search needs
 
 returns-2 : tie.Need-returns-2
 returns-2 c =
-    let s = c .before .before .before .before .before .before .before .before .before .before .before .before .before .before .before .before .before .before .before .before .before in
+    let s = c .before .before .before .before .before .before .before .before .before .before .before .before .before .before .before .before .before .before .before in
     let a = s .args in
     let p = lists (a .order .now) (a .records .now) (a .room .now) in
-    received (a .block) p (c .before .before .before .before .before .before .before .before .before .before .before .before .before .before .well-formed .ensures .0) (c .before .before .before .before .before .before .before .before .before .before .before .before .if1 .left) (a .buf .now) _ (lists _ _ _) _ (c .before .before .before .before .before .before .before .before .recv .ensures) _ (c .before .before .recovered .ensures) _ _ (c .before .with-receiver .ensures) (c .with-probe .ensures)
+    received (a .block) p (c .before .before .before .before .before .before .before .before .before .before .before .before .before .fits2 .ensures .0) (c .before .before .before .before .before .before .before .before .before .before .before .before .if1 .left) (a .buf .now) _ (lists _ _ _) _ (c .before .before .before .before .before .before .before .before .recv .ensures) _ (c .before .before .recovered .ensures) _ _ (c .before .with-receiver .ensures) (c .with-probe .ensures)
 
 pub recv-spec : {M : Type 1} → statement M
 recv-spec =
     tie.close
     (tie.spec
-    slice-aggregate-well-formed
-    well-formed-requires
+    fits-requires
     no-length-requires
     same-length
     returns

@@ -5,38 +5,34 @@ use borrow.Author.Needs.{needs}
 use Rattle.kcp.proofs.set_wndsize.Statement.{statement}
 use Rattle.kcp.proofs.set_wndsize.Tie as tie
 
-slice-aggregate-well-formed : tie.Need-slice-aggregate-well-formed
-slice-aggregate-well-formed c = search needs
-
-well-formed-requires : tie.Need-well-formed-requires
-well-formed-requires c κs = search needs
+fits-requires : tie.Need-fits-requires
+fits-requires c κs = search needs
 
 bad-pool-requires : tie.Need-bad-pool-requires
 bad-pool-requires c κs = search needs
 
 returns : tie.Need-returns
 returns c =
-    let s = c .before .before .before .before .before .before .before .before in
+    let s = c .before .before .before .before .before .before in
     let a = s .args in
     let p = lists (a .order .now) (a .records .now) (a .room .now) in
-    unset (a .block) p (c .before .before .before .well-formed .ensures .0) (c .before .if1 .taken) (a .sndwnd) (a .rcvwnd) _ (c .bad-pool .ensures)
+    unset (a .block) p (c .before .before .fits2 .ensures .0) (c .before .if1 .taken) (a .sndwnd) (a .rcvwnd) _ (c .bad-pool .ensures)
 
 set-wndsize-requires : tie.Need-set-wndsize-requires
 set-wndsize-requires c κs = search needs
 
 returns-2 : tie.Need-returns-2
 returns-2 c =
-    let s = c .before .before .before .before .before .before .before .before in
+    let s = c .before .before .before .before .before .before in
     let a = s .args in
     let p = lists (a .order .now) (a .records .now) (a .room .now) in
-    windowed (a .block) p (c .before .before .before .well-formed .ensures .0) (c .before .if1 .left) (a .sndwnd) (a .rcvwnd) _ (c .set-wndsize .ensures)
+    windowed (a .block) p (c .before .before .fits2 .ensures .0) (c .before .if1 .left) (a .sndwnd) (a .rcvwnd) _ (c .set-wndsize .ensures)
 
 pub set-wndsize-spec : {M : Type 1} → statement M
 set-wndsize-spec =
     tie.close
     (tie.spec
-    slice-aggregate-well-formed
-    well-formed-requires
+    fits-requires
     bad-pool-requires
     returns
     set-wndsize-requires
