@@ -10,7 +10,6 @@ use Rattle.serial.specs.Window.{inWindow}
 use Rattle.slots.specs.Pool.{Lists}
 use Rattle.block.specs.declared.probe.Probe.{Probe}
 use Rattle.block.specs.declared.receiver.Receiver.{Receiver}
-use Rattle.block.specs.declared.acklist.AckList.{AckList}
 use Rattle.block.specs.declared.Kcp.{Kcp}
 use Rattle.block.specs.declared.set.Set.{Set}
 use Rattle.block.specs.Parts.{withReceiver, withProbe, withAckList}

@@ -25,7 +25,7 @@ use Rattle.block.proofs.Exact.{exactly-within, exactly-le, ack-sizes}
 use Rattle.receiving.specs.Rules.{Segment, Answer, refused, gives, payloads, joined, listed, given, tooLarge, tells, setWindow}
 use Rattle.receiving.specs.History.{Event, eventPush, eventRecv, eventMove, eventWindow, leaves as ruleLeaves, takes as ruleTakes, hands as ruleHands}
 use Rattle.receiving.proofs.Laws.{and-right}
-use Rattle.receive.specs.Memory.{Side, messageAt, bytesAt, fullAt, pushAt, acksAt, listAt, recvAt, answerAt, moveBufAt, probeAt, windowsAt}
+use Rattle.receive.specs.Memory.{Side, messageAt, bytesAt, fullAt, acksAt, listAt, recvAt, answerAt, moveBufAt, probeAt, windowsAt}
 use Rattle.receive.specs.Fits.{receiveFits, Good}
 use Rattle.receive.proofs.Seen.{message-queued, seen-answer, seen-message, seen-bytes, seen-push, push-good, push-length, seen-recv, recv-good, handed-length, seen-moveBuf, move-good}
 use Rattle.receive.proofs.Windows.{seen-window, window-good}

@@ -20,7 +20,7 @@ use Rattle.block.specs.WellFormed.{ackNumbers}
 use Rattle.receiving.specs.Rules.{Segment, tooLarge}
 use Rattle.receiving.specs.Rules as rules
 use Rattle.receive.specs.declared.Length.{Length}
-use Rattle.receive.specs.declared.Length.the-variants.{Is, Refused}
+use Rattle.receive.specs.declared.Length.the-variants.{Refused}
 use Rattle.receive.specs.Memory.{Side, moveBufAt, peekAt, answerAt, recvAt, bytesAt, probeAt, lengthAnswer, numberOfLength, windowsAt, fullAt, pushAt, acksAt, listAt, skipsAt}
 use Rattle.receive.specs.Fits.{receiveFits}
 

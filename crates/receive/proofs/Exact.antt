@@ -1,9 +1,9 @@
 -- The test for 15 is true exactly when its facts hold, and then the receive side is good to act on. Assumes nothing.
-use Prim.Native.Nat.{ℕ, suc, _+_, _*_, _^_, _≤_, _<_}
+use Prim.Native.Nat.{ℕ, _+_, _*_, _^_, _≤_, _<_}
 use native.Mathlib.Omega.{arith}
 use mathlib.Core.Path.{_≡_, refl, sym, ap, _∙_, subst}
 use mathlib.Core.Bool.{Bool, true, false, not, _&&_}
-use mathlib.Core.List.{List, [], _∷_}
+use mathlib.Core.List.{List}
 use lib.ListN.{length, take, getD, replicate, length-map}
 use borrow.Author.Tests.{not-true, not-false}
 use Rattle.lent.proofs.Regions.{region-length, region-at}
@@ -15,11 +15,11 @@ use Rattle.slots.proofs.Pools.{well-pool, pool-well, tested-marks}
 use Rattle.slots.proofs.Views.{record-in}
 use Rattle.block.specs.declared.receiver.Receiver.{Receiver}
 use Rattle.block.specs.declared.Kcp.{Kcp}
-use Rattle.block.specs.Sizes.{Within, receiveSizes, PoolSizes}
+use Rattle.block.specs.Sizes.{receiveSizes, PoolSizes}
 use Rattle.block.specs.WellFormed.{ReceiverFits, ownNumbers, OwnNumbers, receiveNumbers}
 use Rattle.block.proofs.Exact.{Exactly, exactly-le, exactly-both, exactly-as, pool-sizes, own-numbers}
 use Rattle.block.proofs.Together.{goes, stops}
-use Rattle.receiving.specs.Rules.{Segment, numbers, rises, Ordered, WellFormed}
+use Rattle.receiving.specs.Rules.{Segment, numbers, rises, Ordered}
 use Rattle.receiving.proofs.Laws.{and-left, rises-ordered, ordered-rises, ordered-length}
 use Rattle.receive.specs.Memory.{seen, inUse, heldNumbers}
 use Rattle.receive.specs.Fits.{receiveFits, ReceiveFits, Lies, Good, Marked}

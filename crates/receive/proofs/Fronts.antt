@@ -1,5 +1,5 @@
 -- What peeksize answers, by the front of the queue. Assumes nothing.
-use Prim.Native.Nat.{ℕ, suc, _+_, _≤_, _<_}
+use Prim.Native.Nat.{ℕ, suc, _≤_, _<_}
 use native.Mathlib.Omega.{arith}
 use native.Mathlib.Nat.{not-suc-le-zero}
 use mathlib.Core.Path.{_≡_, refl, sym, ap, _∙_}
@@ -12,10 +12,9 @@ use Rattle.slots.specs.Entries.{total, slotOf}
 use Rattle.slots.specs.Pool.{lists}
 use Rattle.block.specs.declared.receiver.Receiver.{Receiver}
 use Rattle.block.specs.declared.refusal.Refusal.the-variants.{RecvQueueEmpty, ExpectingFragment}
-use Rattle.receiving.specs.Rules.{Answer, refused, gives, message, expects, peeked}
+use Rattle.receiving.specs.Rules.{refused, gives, message, expects, peeked}
 use Rattle.receiving.specs.Numbers.{Spans}
 use Rattle.receiving.specs.declared.Message.{Message}
-use Rattle.receive.specs.declared.Length.{Length}
 use Rattle.receive.specs.declared.Length.the-variants.{Is, Refused}
 use Rattle.receive.specs.Memory.{queueMarks, queueSizes, peekAt, lengthAnswer, refusalOf}
 use Rattle.receive.specs.Fits.{Lies}

@@ -5,7 +5,6 @@ use mathlib.Core.Path.{_≡_, refl, sym, ap, _∙_, subst}
 use mathlib.Core.Bool.{Bool, true, false, cond}
 use mathlib.Core.List.{List, [], _∷_}
 use lib.ListN.{length, take, getD}
-use lib.Dec.{ltb}
 use borrow.Author.Tests.{lt-ltb, le-ltb}
 use Rattle.lent.specs.Order.{orderFrom}
 use Rattle.lent.specs.Records.{put}
@@ -13,7 +12,7 @@ use Rattle.lent.proofs.Regions.{region-take}
 use Rattle.slots.specs.Entries.{total, slotOf, lengthOf}
 use Rattle.slots.specs.Pool.{Lists, lists, lengthsAt, Pool}
 use Rattle.slots.proofs.Pools.{unlike, dropped-by}
-use Rattle.slots.proofs.Views.{room-in, length-fits, record-in}
+use Rattle.slots.proofs.Views.{room-in, length-fits}
 use Rattle.block.specs.declared.receiver.Receiver.{Receiver}
 use Rattle.block.specs.declared.refusal.Refusal.{Refusal}
 use Rattle.block.specs.declared.refusal.Refusal.the-variants.{UserBufTooSmall}

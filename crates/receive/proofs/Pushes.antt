@@ -1,9 +1,9 @@
 -- What a push leaves, by whether it is acknowledged, whether the ack list is full, and whether it lies in the window. Assumes nothing.
 use Prim.Native.Nat.{ℕ, _+_}
-use mathlib.Core.Path.{_≡_, refl, sym, ap, _∙_}
-use mathlib.Core.Bool.{Bool, true, false, not, _&&_, _||_}
+use mathlib.Core.Path.{_≡_, refl, sym, _∙_}
+use mathlib.Core.Bool.{Bool, true, false, not, _&&_}
 use mathlib.Core.List.{List, [], _∷_}
-use Rattle.serial.specs.Branch.{pick, pick-true, pick-false}
+use Rattle.serial.specs.Branch.{pick-true, pick-false}
 use Rattle.serial.specs.Window.{inWindow, acknowledged}
 use Rattle.lent.specs.Records.{stored}
 use Rattle.slots.specs.Pool.{Lists}
@@ -11,7 +11,7 @@ use Rattle.block.specs.declared.receiver.Receiver.{Receiver}
 use Rattle.block.specs.declared.acklist.AckList.{AckList}
 use Rattle.receiving.specs.Rules.{Segment, skipped, listed}
 use Rattle.receiving.proofs.Laws.{or-left}
-use Rattle.receive.specs.Memory.{Side, side, storedAt, movedAt, pushAt, fullAt, acksAt, listAt, skipsAt, PushedAs}
+use Rattle.receive.specs.Memory.{side, storedAt, movedAt, pushAt, fullAt, acksAt, listAt, skipsAt, PushedAs}
 
 module _ (r : Receiver) (a : AckList) (p : Lists) (list : List ℕ) (s : Segment) (ts : ℕ) where
   abbrev acked : Bool

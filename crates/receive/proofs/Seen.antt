@@ -1,20 +1,20 @@
 -- The law between the memory functions and the rules: what is seen in the memory afterwards is the rule's outcome of what was seen before.
 -- Assumes nothing.
-use Prim.Native.Nat.{ℕ, suc, zero, _+_, _-_, _*_, _^_, _≤_, _<_, zero-le, suc-le-suc}
+use Prim.Native.Nat.{ℕ, suc, zero, _+_, _-_, _^_, _≤_, _<_, zero-le, suc-le-suc}
 use native.Mathlib.Omega.{arith}
 use mathlib.Core.Path.{_≡_, refl, sym, ap, _∙_, subst}
 use mathlib.Core.Bool.{Bool, true, false, cond, not, _&&_}
 use mathlib.Core.List.{List, [], _∷_, _++_, map, map-map}
-use lib.ListN.{length, take, drop, getD, length-map, length-append, length-drop}
+use lib.ListN.{length, take, drop, length-map, length-append, length-drop}
 use lib.Seq.{length-take-le}
 use lib.Dec.{eqb, ltb}
 use Rattle.serial.specs.Wrap.{add32}
-use Rattle.serial.specs.Branch.{pick, pick-true, pick-false}
+use Rattle.serial.specs.Branch.{pick}
 use Rattle.serial.specs.Window.{distance, inWindow}
-use Rattle.lent.specs.Order.{inserted, region}
-use Rattle.lent.proofs.Regions.{map-append, map-take, map-drop, map-inserted, map-same, region-length, region-take, border-front, border-back}
+use Rattle.lent.specs.Order.{region}
+use Rattle.lent.proofs.Regions.{map-append, map-take, map-drop, map-inserted, region-length, region-take, border-front, border-back}
 use Rattle.slots.specs.Entries.{uses, freeSlot}
-use Rattle.slots.specs.Pool.{Lists, Stored, segment, stands, view, numbersAt, lengthsAt, Pool, placed, dropped}
+use Rattle.slots.specs.Pool.{Lists, Stored, segment, stands, view, numbersAt, lengthsAt, Pool, dropped}
 use Rattle.slots.proofs.Views.{view-numbers, view-lengths, placed-view, placed-view-before, placed-pool, placed-length, free-slot-in, free-slot-free, dropped-view, dropped-view-behind, dropped-pool}
 use Rattle.block.specs.declared.receiver.Receiver.{Receiver}
 use Rattle.receiving.specs.Rules.{Segment, Receiving, numbers, marks, sizes, payloads, ready, moved, moveBuf, isHeld, nearer, insert, stored, skipped, reached, push, message, joined, peek, unlessLonger, recvAnswer, freed, received, recv, Answer, refused, gives}

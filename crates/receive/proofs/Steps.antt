@@ -1,20 +1,20 @@
 -- What the steps of the code ask and give, over the lists behind the slices. Assumes nothing.
-use Prim.Native.Nat.{ℕ, suc, _+_, _-_, _*_, _^_, _≤_, _<_}
+use Prim.Native.Nat.{ℕ, _+_, _-_, _*_, _^_, _≤_, _<_}
 use native.Mathlib.Omega.{arith}
 use mathlib.Core.Path.{_≡_, refl, sym, ap, _∙_, subst}
-use mathlib.Core.Bool.{Bool, true, false}
+use mathlib.Core.Bool.{true, false}
 use mathlib.Core.List.{List, [], _∷_}
 use lib.ListN.{length, take, getD, set, replicate, length-set}
 use lib.Seq.{length-take-le}
 use Rattle.serial.specs.Branch.{pick-true, pick-false}
 use Rattle.serial.specs.Window.{inWindow}
 use Rattle.lent.specs.Order.{inserted}
-use Rattle.slots.specs.Entries.{entryOf, slotOf, lengthOf, freeSlot}
+use Rattle.slots.specs.Entries.{entryOf, slotOf, freeSlot}
 use Rattle.slots.specs.Marks.{marked, firstFree}
 use Rattle.slots.specs.Pool.{Lists, lists, segment, Pool, placed, numbersAt}
 use Rattle.slots.proofs.Totals.{slot-entry}
 use Rattle.slots.proofs.Marking.{first-lowest, marked-inserted}
-use Rattle.slots.proofs.Views.{slot-in, length-fits, record-in, room-in, placed-length, placed-used, free-slot-in, free-slot-free}
+use Rattle.slots.proofs.Views.{length-fits, record-in, placed-length, placed-used, free-slot-in, free-slot-free}
 use Rattle.block.specs.declared.receiver.Receiver.{Receiver}
 use Rattle.receiving.specs.Rules.{Segment, ready, isHeld, Ordered}
 use Rattle.receiving.specs.Numbers.{Found}

@@ -1,9 +1,8 @@
 -- The window setter is the rule's, and a fresh block's receive side is the rule's fresh one. Assumes nothing.
-use Prim.Native.Nat.{ℕ, _+_, _*_, _≤_, max}
+use Prim.Native.Nat.{ℕ, max}
 use native.Mathlib.Omega.{arith}
 use mathlib.Core.Path.{_≡_, refl, sym, ap, _∙_, subst}
 use mathlib.Core.Bool.{Bool, true, false, cond, not, _&&_}
-use mathlib.Core.List.{List, []}
 use lib.ListN.{length}
 use lib.Dec.{ltb}
 use Rattle.serial.specs.Branch.{pick, pick-ap}
@@ -15,7 +14,7 @@ use Rattle.block.specs.declared.Kcp.{Kcp}
 use Rattle.block.specs.declared.set.Set.{Set}
 use Rattle.block.specs.Sizes.{PoolSizes}
 use Rattle.block.specs.Fresh.{freshReceiver}
-use Rattle.receiving.specs.Rules.{Receiving, tooLarge, widened, setWindow, fresh}
+use Rattle.receiving.specs.Rules.{tooLarge, widened, setWindow, fresh}
 use Rattle.receiving.proofs.Keep.{well-window, well-fresh}
 use Rattle.receive.specs.Memory.{seen, inUse, widenedAt, receiveWindow, windowsAt}
 use Rattle.receive.specs.Fits.{Good}

@@ -1,18 +1,18 @@
 -- The memory functions at small closed cases. Assumes nothing.
 use Prim.Native.Nat.{ℕ}
-use mathlib.Core.Bool.{Bool, true, false, cond}
+use mathlib.Core.Bool.{true, false}
 use mathlib.Core.Path.{_≡_, refl}
-use mathlib.Core.List.{List, [], _∷_, map}
-use lib.ListN.{take, replicate}
+use mathlib.Core.List.{List, [], _∷_}
+use lib.ListN.{replicate}
 use Rattle.serial.specs.Branch.{pick}
 use Rattle.serial.specs.Window.{distance}
 use Rattle.lent.specs.Order.{inserted, region}
 use Rattle.lent.specs.Records.{put, part}
 use Rattle.slots.specs.Entries.{total, inSlot, uses, freeFrom, freeSlot}
-use Rattle.slots.specs.Pool.{Lists, lists, stands, placed, dropped}
+use Rattle.slots.specs.Pool.{Lists, lists, placed, dropped}
 use Rattle.block.specs.declared.receiver.Receiver.{Receiver}
-use Rattle.receiving.specs.Rules.{Segment, Receiving, Answer, refused, gives, ready, skipped, listed, isHeld, nearer, message, joined, peeked, unlessLonger, tooLarge}
-use Rattle.receive.specs.Memory.{Side, side, seen, movedBy, readyAt, moveBufAt, placeAt, putIn, storedAt, movedAt, pushAt, acksAt, listAt, skipsAt, peekAt, answerAt, messageAt, freedAt, handedAt, recvAt, bytesAt, tellBit}
+use Rattle.receiving.specs.Rules.{Segment, refused, gives, ready, skipped, listed, isHeld, nearer, message, joined, peeked, unlessLonger}
+use Rattle.receive.specs.Memory.{Side, movedBy, readyAt, moveBufAt, placeAt, putIn, storedAt, movedAt, pushAt, acksAt, listAt, skipsAt, peekAt, answerAt, messageAt, freedAt, handedAt, recvAt, bytesAt, tellBit}
 
 -- three slots with old contents, none in use; the window is as narrow as the pool
 empty : Lists

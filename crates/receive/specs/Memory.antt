@@ -1,7 +1,7 @@
 -- What the receive side's calls do to the block's numbers and to the lent memory, every number and byte: the memory functions of `move_buf`,
 -- of a push, of peeksize and recv. The decisions are those of the rules (receiving/specs/Rules), asked of the numbers in the pool.
 -- The pool has records of two numbers, sn and frg. Assumes nothing.
-use Prim.Native.Nat.{ℕ, _+_, _-_, _*_, _/_, _%_, max}
+use Prim.Native.Nat.{ℕ, _+_, _-_, _/_, _%_, max}
 use mathlib.Core.Path.{_≡_}
 use mathlib.Core.Bool.{Bool, cond}
 use mathlib.Core.List.{List, [], _∷_, map}

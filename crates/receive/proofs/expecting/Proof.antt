@@ -1,14 +1,11 @@
+-- `receive::expecting` meets its contract. Assumes nothing.
 use Rattle.receive.proofs.Numbers.{leb-next, none-ltb, some-ltb}
 use Rattle.receive.proofs.expecting.Statement.{statement}
 use Rattle.receive.proofs.expecting.Tie as tie
-use Rattle.receive.proofs.expecting.Reads as reads
-use Rattle.receive.proofs.expecting.Lts as lts
 
--- src/lib.rt:241:9
 returns : tie.Need-returns
 returns c = rw (none-ltb (c .if1 .taken))
 
--- src/lib.rt:237:1
 returns-2 : tie.Need-returns-2
 returns-2 c = rw (some-ltb (c .if1 .left)) (leb-next (c .before .args .queued) (c .before .args .frg))
 

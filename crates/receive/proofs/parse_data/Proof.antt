@@ -1,3 +1,4 @@
+-- `receive::parse_data` meets its contract. Assumes nothing.
 use Prim.Native.Nat.{_<_, _^_}
 use native.Mathlib.Omega.{arith}
 use Rattle.slots.specs.Pool.{lists}
@@ -6,21 +7,13 @@ use Rattle.receive.proofs.Steps.{pool-lies, place-asks, known-side, mov
 use borrow.Author.Needs.{needs}
 use Rattle.receive.proofs.parse_data.Statement.{statement}
 use Rattle.receive.proofs.parse_data.Tie as tie
-use Rattle.receive.proofs.parse_data.Reads as reads
-use Rattle.receive.proofs.parse_data.Lts as lts
-use Rattle.receive.proofs.move_buf.Reads as move-buf-reads
-use Rattle.receive.proofs.put_in.Reads as put-in-reads
-use Rattle.receiving.proofs.find_place.Reads as find-place-reads
 
--- src/lib.rt:135:16
 cast-from : tie.Need-cast-from
 cast-from c = search needs
 
--- src/lib.rt:140:9
 cast-find-place : tie.Need-cast-find-place
 cast-find-place c = search needs
 
--- src/lib.rt:136:9
 find-place-requires : tie.Need-find-place-requires
 find-place-requires c κs =
     let s = c .before .before .before .before .before .before .before .before .before in
@@ -28,7 +21,6 @@ find-place-requires c κs =
     let p = lists (a .order .now) (a .records .now) (a .room .now) in
     place-asks (a .receiver) p (s .pre .0)
 
--- src/lib.rt:145:9
 move-buf-requires : tie.Need-move-buf-requires
 move-buf-requires c κs =
     let s = c .before .before .before .before .before .before .before .before .before .before .before .before .before in
@@ -36,15 +28,12 @@ move-buf-requires c κs =
     let p = lists (a .order .now) (a .records .now) (a .room .now) in
     pool-lies (a .receiver) p (s .pre .0 .pool)
 
--- src/lib.rt:145:9
 same-length : tie.Need-same-length
 same-length c = search needs
 
--- src/lib.rt:145:9
 same-length-2 : tie.Need-same-length-2
 same-length-2 c = search needs
 
--- src/lib.rt:145:9
 returns : tie.Need-returns
 returns c =
     let s = c .before .before .before .before .before .before .before .before .before .before .before .before .before .before in
@@ -53,7 +42,6 @@ returns c =
     let small : a .sn < 2 ^ 32 = omega arith in
     (known-side (a .receiver) p (s .pre .0) (a .sn) (a .frg) (a .payload .now) small (s .pre .1 .1 .0) (s .pre .1 .1 .1) _ (c .before .before .before .before .find-place .ensures) (c .before .before .before .if1 .taken) _ (c .move-buf .ensures), moved-marks (side (a .receiver) p) (s .pre .0 .pool) _ (c .move-buf .ensures) (a .marks .now) (s .pre .1 .0))
 
--- src/lib.rt:153:9
 add-put-in : tie.Need-add-put-in
 add-put-in c =
     let s = c .before .before .before .before .before .before .before .before .before .before .before .before .before .before .before .before in
@@ -63,7 +51,6 @@ add-put-in c =
     let h = at-small (a .receiver) p (s .pre .0) (a .sn) (a .frg) (a .payload .now) small (s .pre .1 .1 .0) (s .pre .1 .1 .1) _ (c .before .before .before .before .before .before .find-place .ensures) (c .before .before .before .before .before .if1 .left) in
     omega arith
 
--- src/lib.rt:147:9
 put-in-requires : tie.Need-put-in-requires
 put-in-requires c κs =
     let s = c .before .before .before .before .before .before .before .before .before .before .before .before .before .before .before .before in
@@ -74,7 +61,6 @@ put-in-requires c κs =
     let u = c .before .before .before .before .before .if1 .left in
     (s .pre .0 .pool, (slot-left (a .receiver) p (s .pre .0) (a .sn) (a .frg) (a .payload .now) small (s .pre .1 .1 .0) (s .pre .1 .1 .1) _ f u, (s .pre .1 .0, (at-found (a .receiver) p (s .pre .0) (a .sn) (a .frg) (a .payload .now) small (s .pre .1 .1 .0) (s .pre .1 .1 .1) _ f u, s .pre .1 .1 .1))))
 
--- src/lib.rt:158:5
 move-buf-requires-2 : tie.Need-move-buf-requires-2
 move-buf-requires-2 c κs =
     let s = c .before .before .before .before .before .before .before .before .before .before .before .before .before .before .before .before .before .before .before .before .before .before .before .before .before .before .before in
@@ -83,23 +69,18 @@ move-buf-requires-2 c κs =
     let small : a .sn < 2 ^ 32 = omega arith in
     with-lies (a .receiver) p (s .pre .0) (a .sn) (a .frg) (a .payload .now) small (s .pre .1 .1 .0) (s .pre .1 .1 .1) _ (c .before .before .before .before .before .before .before .before .before .before .before .before .before .before .before .before .before .find-place .ensures) (c .before .before .before .before .before .before .before .before .before .before .before .before .before .before .before .before .if1 .left) _ _ (c .before .before .before .before .before .before .before .before .before .before .put-in .ensures .0)
 
--- src/lib.rt:117:1
 same-length-3 : tie.Need-same-length-3
 same-length-3 c = search needs
 
--- src/lib.rt:117:1
 same-length-4 : tie.Need-same-length-4
 same-length-4 c = search needs
 
--- src/lib.rt:117:1
 same-length-5 : tie.Need-same-length-5
 same-length-5 c = search needs
 
--- src/lib.rt:117:1
 same-length-6 : tie.Need-same-length-6
 same-length-6 c = search needs
 
--- src/lib.rt:117:1
 returns-2 : tie.Need-returns-2
 returns-2 c =
     let s = c .before .before .before .before .before .before .before .before .before .before .before .before .before .before .before .before .before .before .before .before .before .before .before .before .before .before .before .before in

@@ -1,3 +1,4 @@
+-- `receive::peeksize` meets its contract. Assumes nothing.
 use native.Mathlib.Omega.{arith}
 use mathlib.Core.Path.{sym, _∙_}
 use Rattle.receive.proofs.Numbers.{some-lt}
@@ -5,29 +6,19 @@ use Rattle.receive.proofs.Fronts.{peek-empty, peek-expects, peek-whole}
 use borrow.Author.Needs.{needs}
 use Rattle.receive.proofs.peeksize.Statement.{statement}
 use Rattle.receive.proofs.peeksize.Tie as tie
-use Rattle.receive.proofs.peeksize.Reads as reads
-use Rattle.receive.proofs.peeksize.Lts as lts
-use Rattle.lent.proofs.number_at.Reads as number-at-reads
-use Rattle.receive.proofs.expecting.Reads as expecting-reads
-use Rattle.receiving.proofs.message_of.Reads as message-of-reads
-use Rattle.slots.proofs.slot_of.Reads as slot-of-reads
 
--- src/lib.rt:253:9
 returns : tie.Need-returns
 returns c =
     let s = c .before .before .before in
     let a = s .args in
     peek-empty (a .receiver) (a .order .now) (a .records .now) (s .pre) (c .if1 .taken)
 
--- src/lib.rt:257:32
 shared-slice-read-slot-of : tie.Need-shared-slice-read-slot-of
 shared-slice-read-slot-of c = search needs
 
--- src/lib.rt:257:9
 slot-of-requires : tie.Need-slot-of-requires
 slot-of-requires c κs = search needs
 
--- src/lib.rt:258:18
 number-at-requires : tie.Need-number-at-requires
 number-at-requires c κs =
     let s = c .before .before .before .before .before in
@@ -38,11 +29,9 @@ number-at-requires c κs =
     let e = c .slot-of .ensures in
     omega arith
 
--- src/lib.rt:258:8
 expecting-requires : tie.Need-expecting-requires
 expecting-requires c κs = search needs
 
--- src/lib.rt:259:9
 returns-2 : tie.Need-returns-2
 returns-2 c =
     let s = c .before .before .before .before .before .before .before .before in
@@ -50,11 +39,9 @@ returns-2 c =
     let e = rw (c .before .before .before .slot-of .ensures) at (c .before .before .number-at .ensures) in
     peek-expects (a .receiver) (a .order .now) (a .records .now) (s .pre) (some-lt (c .before .before .before .before .before .if1 .left)) _ e (sym (c .before .expecting .ensures) ∙ c .if2 .taken)
 
--- src/lib.rt:263:57
 cast-message-of : tie.Need-cast-message-of
 cast-message-of c = search needs
 
--- src/lib.rt:263:9
 message-of-requires : tie.Need-message-of-requires
 message-of-requires c κs =
     let s = c .before .before .before .before .before .before .before .before in
@@ -64,7 +51,6 @@ message-of-requires c κs =
     let n = l .small in
     (omega arith, (omega arith, (λ i h. l .rows i (omega arith), λ i h. l .lengths i (omega arith))))
 
--- src/lib.rt:247:1
 returns-3 : tie.Need-returns-3
 returns-3 c =
     let s = c .before .before .before .before .before .before .before .before .before in

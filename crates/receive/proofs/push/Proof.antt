@@ -1,3 +1,4 @@
+-- `receive::push` meets its contract. Assumes nothing.
 use mathlib.Core.Path.{sym, _∙_}
 use borrow.Author.Tests.{le-leb, lt-leb, not-true, not-false}
 use Rattle.slots.specs.Pool.{lists}
@@ -5,22 +6,13 @@ use Rattle.receive.proofs.Pushes.{pushed-none, pushed-skipped, pushed-o
 use borrow.Author.Needs.{needs}
 use Rattle.receive.proofs.push.Statement.{statement}
 use Rattle.receive.proofs.push.Tie as tie
-use Rattle.receive.proofs.push.Reads as reads
-use Rattle.receive.proofs.push.Lts as lts
-use Rattle.lent.proofs.put_record.Reads as put-record-reads
-use Rattle.receive.proofs.parse_data.Reads as parse-data-reads
-use Rattle.serial.proofs.acknowledged.Reads as acknowledged-reads
-use Rattle.serial.proofs.in_window.Reads as in-window-reads
 
--- src/lib.rt:185:15
 cast-wnd : tie.Need-cast-wnd
 cast-wnd c = search needs
 
--- src/lib.rt:186:9
 acknowledged-requires : tie.Need-acknowledged-requires
 acknowledged-requires c κs = search needs
 
--- src/lib.rt:187:9
 returns : tie.Need-returns
 returns c =
     let s = c .before .before .before .before .before .before .before .before .before in
@@ -28,11 +20,9 @@ returns c =
     let p = lists (a .order .now) (a .records .now) (a .room .now) in
     (pushed-none (a .receiver) (a .acklist) p (a .acks .now) (record { sn = a .sn; frg = a .frg; payload = a .payload .now }) (a .ts) (sym (c .before .acknowledged .ensures) ∙ not-true _ (c .if1 .taken)), s .pre .1 .0)
 
--- src/lib.rt:193:13
 cast-n : tie.Need-cast-n
 cast-n c = search needs
 
--- src/lib.rt:195:9
 returns-2 : tie.Need-returns-2
 returns-2 c =
     let s = c .before .before .before .before .before .before .before .before .before .before .before in
@@ -40,27 +30,21 @@ returns-2 c =
     let p = lists (a .order .now) (a .records .now) (a .room .now) in
     (pushed-skipped (a .receiver) (a .acklist) p (a .acks .now) (record { sn = a .sn; frg = a .frg; payload = a .payload .now }) (a .ts) (sym (c .before .before .before .acknowledged .ensures) ∙ not-false _ (c .before .before .if1 .left)) (le-leb _ _ (c .if2 .taken)), s .pre .1 .0)
 
--- src/lib.rt:202:31
 slice-aggregate-put-record : tie.Need-slice-aggregate-put-record
 slice-aggregate-put-record c = search needs
 
--- src/lib.rt:202:5
 put-record-requires : tie.Need-put-record-requires
 put-record-requires c κs = search needs
 
--- src/lib.rt:204:15
 add-t26 : tie.Need-add-t26
 add-t26 c = search needs
 
--- src/lib.rt:207:9
 in-window-requires : tie.Need-in-window-requires
 in-window-requires c κs = search needs
 
--- src/lib.rt:208:9
 same-length : tie.Need-same-length
 same-length c = search needs
 
--- src/lib.rt:208:9
 returns-3 : tie.Need-returns-3
 returns-3 c =
     let s = c .before .before .before .before .before .before .before .before .before .before .before .before .before .before .before .before .before .before .before in
@@ -69,7 +53,6 @@ returns-3 c =
     let e = sym (c .before .before .before .before .before .before .before .before .before .before .before .acknowledged .ensures) ∙ not-false _ (c .before .before .before .before .before .before .before .before .before .before .if1 .left) in
     (pushed-old (a .receiver) (a .acklist) p (a .acks .now) (record { sn = a .sn; frg = a .frg; payload = a .payload .now }) (a .ts) e (lt-leb _ _ (c .before .before .before .before .before .before .before .before .if2 .left)) _ (c .before .before .before .before .before .put-record .ensures) (sym (c .before .in-window .ensures) ∙ not-true _ (c .if3 .taken)), s .pre .1 .0)
 
--- src/lib.rt:215:19
 parse-data-requires : tie.Need-parse-data-requires
 parse-data-requires c κs =
     let s = c .before .before .before .before .before .before .before .before .before .before .before .before .before .before .before .before .before .before .before .before .before .before .before in
@@ -77,27 +60,21 @@ parse-data-requires c κs =
     let p = lists (a .order .now) (a .records .now) (a .room .now) in
     (s .pre .0, (s .pre .1 .0, (sym (c .before .before .before .before .before .in-window .ensures) ∙ not-false _ (c .before .before .before .before .if3 .left), s .pre .1 .1 .0)))
 
--- src/lib.rt:163:1
 same-length-2 : tie.Need-same-length-2
 same-length-2 c = search needs
 
--- src/lib.rt:163:1
 same-length-3 : tie.Need-same-length-3
 same-length-3 c = search needs
 
--- src/lib.rt:163:1
 same-length-4 : tie.Need-same-length-4
 same-length-4 c = search needs
 
--- src/lib.rt:163:1
 same-length-5 : tie.Need-same-length-5
 same-length-5 c = search needs
 
--- src/lib.rt:163:1
 same-length-6 : tie.Need-same-length-6
 same-length-6 c = search needs
 
--- src/lib.rt:163:1
 returns-4 : tie.Need-returns-4
 returns-4 c =
     let s = c .before .before .before .before .before .before .before .before .before .before .before .before .before .before .before .before .before .before .before .before .before .before .before .before .before .before .before .before .before .before .before .before in

@@ -1,3 +1,4 @@
+-- `receive::receive_window` meets its contract. Assumes nothing.
 use mathlib.Core.Path.{sym}
 use Rattle.receive.proofs.Numbers.{none-ltb, some-ltb}
 use Rattle.serial.specs.Branch.{pick-true, pick-false}
@@ -5,24 +6,17 @@ use Rattle.receive.specs.Memory.{receiveWindow, widenedAt}
 use borrow.Author.Needs.{needs}
 use Rattle.receive.proofs.receive_window.Statement.{statement}
 use Rattle.receive.proofs.receive_window.Tie as tie
-use Rattle.receive.proofs.receive_window.Reads as reads
-use Rattle.receive.proofs.receive_window.Lts as lts
-use Rattle.receive.proofs.at_least.Reads as at-least-reads
 
--- src/lib.rt:343:9
 returns : tie.Need-returns
 unfolding receiveWindow
 returns c = sym (pick-false _ _ (none-ltb (c .if1 .taken)))
 
--- src/lib.rt:345:9
 at-least-requires : tie.Need-at-least-requires
 at-least-requires c κs = search needs
 
--- src/lib.rt:349:18
 at-least-requires-2 : tie.Need-at-least-requires-2
 at-least-requires-2 c κs = search needs
 
--- src/lib.rt:339:1
 returns-2 : tie.Need-returns-2
 unfolding receiveWindow widenedAt
 returns-2 c = rw (c .at-least2 .ensures, c .before .at-least .ensures) (sym (pick-true _ _ (some-ltb (c .before .before .if1 .left))))

@@ -1,3 +1,4 @@
+-- `receive::recovered` meets its contract. Assumes nothing.
 use mathlib.Core.Path.{sym, _∙_}
 use borrow.Author.Tests.{lt-ltb, le-ltb, lt-leb, le-leb}
 use Rattle.serial.specs.Branch.{pick-true, pick-false}
@@ -5,29 +6,21 @@ use Rattle.receive.specs.Memory.{probeAt}
 use borrow.Author.Needs.{needs}
 use Rattle.receive.proofs.recovered.Statement.{statement}
 use Rattle.receive.proofs.recovered.Tie as tie
-use Rattle.receive.proofs.recovered.Reads as reads
-use Rattle.receive.proofs.recovered.Lts as lts
-use Rattle.receive.proofs.tell.Reads as tell-reads
 
--- src/lib.rt:295:18
 cast-window : tie.Need-cast-window
 cast-window c = search needs
 
--- src/lib.rt:297:9
 returns : tie.Need-returns
 unfolding probeAt
 returns c = sym (pick-false _ _ (rw (lt-leb _ _ (c .if1 .taken))))
 
--- src/lib.rt:300:9
 tell-requires : tie.Need-tell-requires
 tell-requires c κs = search needs
 
--- src/lib.rt:300:9
 returns-2 : tie.Need-returns-2
 unfolding probeAt
 returns-2 c = c .tell .ensures ∙ sym (pick-true _ _ (rw (le-leb _ _ (c .before .before .if1 .left), lt-ltb _ _ (c .before .if2 .taken))))
 
--- src/lib.rt:292:1
 returns-3 : tie.Need-returns-3
 unfolding probeAt
 returns-3 c = sym (pick-false _ _ (rw (le-leb _ _ (c .before .if1 .left), le-ltb _ _ (c .if2 .left))))

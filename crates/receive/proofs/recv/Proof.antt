@@ -1,3 +1,4 @@
+-- `receive::recv` meets its contract. Assumes nothing.
 use native.Mathlib.Omega.{arith}
 use Rattle.slots.specs.Pool.{lists}
 use Rattle.receive.proofs.Steps.{pool-lies}
@@ -5,13 +6,7 @@ use Rattle.receive.proofs.Hands.{handed-none, handed-small, segments-in
 use borrow.Author.Needs.{needs}
 use Rattle.receive.proofs.recv.Statement.{statement}
 use Rattle.receive.proofs.recv.Tie as tie
-use Rattle.receive.proofs.recv.Reads as reads
-use Rattle.receive.proofs.recv.Lts as lts
-use Rattle.receive.proofs.hand_out.Reads as hand-out-reads
-use Rattle.receive.proofs.peeksize.Reads as peeksize-reads
-use Rattle.receiving.proofs.message_of.Reads as message-of-reads
 
--- src/lib.rt:310:9
 peeksize-requires : tie.Need-peeksize-requires
 peeksize-requires c κs =
     let s = c .before .before .before .before .before in
@@ -19,19 +14,15 @@ peeksize-requires c κs =
     let p = lists (a .order .now) (a .records .now) (a .room .now) in
     pool-lies (a .receiver) p (s .pre)
 
--- src/lib.rt:311:22
 enum-known-answer : tie.Need-enum-known-answer
 enum-known-answer c = search needs
 
--- src/lib.rt:312:9
 enum-told : tie.Need-enum-told
 enum-told c = search needs
 
--- src/lib.rt:312:9
 same-length : tie.Need-same-length
 same-length c = search needs
 
--- src/lib.rt:312:9
 returns : tie.Need-returns
 returns c =
     let s = c .before .before .before .before .before .before .before .before in
@@ -39,11 +30,9 @@ returns c =
     let p = lists (a .order .now) (a .records .now) (a .room .now) in
     handed-none (a .receiver) p (s .pre) (a .buf .now) _ (c .before .before .peeksize .ensures) _ (c .enum-told .given .1)
 
--- src/lib.rt:318:9
 same-length-2 : tie.Need-same-length-2
 same-length-2 c = search needs
 
--- src/lib.rt:318:9
 returns-2 : tie.Need-returns-2
 returns-2 c =
     let s = c .before .before .before .before .before .before .before .before .before .before in
@@ -51,11 +40,9 @@ returns-2 c =
     let p = lists (a .order .now) (a .records .now) (a .room .now) in
     handed-small (a .receiver) p (s .pre) (a .buf .now) _ (c .before .before .before .before .peeksize .ensures) _ (c .before .before .answer .given .1) (c .if1 .taken)
 
--- src/lib.rt:325:57
 cast-message-of : tie.Need-cast-message-of
 cast-message-of c = search needs
 
--- src/lib.rt:325:9
 message-of-requires : tie.Need-message-of-requires
 message-of-requires c κs =
     let s = c .before .before .before .before .before .before .before .before .before .before .before .before in
@@ -66,7 +53,6 @@ message-of-requires c κs =
     let n = l .small in
     (omega arith, (omega arith, (λ i h. l .rows i (omega arith), λ i h. l .lengths i (omega arith))))
 
--- src/lib.rt:327:19
 hand-out-requires : tie.Need-hand-out-requires
 hand-out-requires c κs =
     let s = c .before .before .before .before .before .before .before .before .before .before .before .before .before .before .before in
@@ -77,15 +63,12 @@ hand-out-requires c κs =
     let w = c .before .before .message-of .ensures in
     (s .pre, (segments-in (a .receiver) p (s .pre) (a .buf .now) _ e _ f (c .before .before .before .before .before .if1 .left) _ w, bytes-in (a .receiver) p (s .pre) (a .buf .now) _ e _ f (c .before .before .before .before .before .if1 .left) _ w))
 
--- src/lib.rt:299:1
 same-length-3 : tie.Need-same-length-3
 same-length-3 c = search needs
 
--- src/lib.rt:299:1
 same-length-4 : tie.Need-same-length-4
 same-length-4 c = search needs
 
--- src/lib.rt:299:1
 returns-3 : tie.Need-returns-3
 returns-3 c =
     let s = c .before .before .before .before .before .before .before .before .before .before .before .before .before .before .before .before .before .before .before .before in

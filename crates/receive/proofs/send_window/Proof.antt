@@ -1,18 +1,15 @@
+-- `receive::send_window` meets its contract. Assumes nothing.
 use mathlib.Core.Path.{sym}
 use Rattle.receive.proofs.Numbers.{none-ltb, some-ltb}
 use Rattle.serial.specs.Branch.{pick-true, pick-false}
 use Rattle.receive.specs.Memory.{sendWindow}
 use Rattle.receive.proofs.send_window.Statement.{statement}
 use Rattle.receive.proofs.send_window.Tie as tie
-use Rattle.receive.proofs.send_window.Reads as reads
-use Rattle.receive.proofs.send_window.Lts as lts
 
--- src/lib.rt:327:9
 returns : tie.Need-returns
 unfolding sendWindow
 returns c = sym (pick-false _ _ (none-ltb (c .if1 .taken)))
 
--- src/lib.rt:323:1
 returns-2 : tie.Need-returns-2
 unfolding sendWindow
 returns-2 c = sym (pick-true _ _ (some-ltb (c .if1 .left)))

@@ -1,43 +1,30 @@
+-- `receive::set_wndsize` meets its contract. Assumes nothing.
 use mathlib.Core.Path.{sym, _∙_}
 use Rattle.serial.specs.Branch.{pick-true, pick-false}
 use Rattle.receive.specs.Memory.{windowsAt}
 use borrow.Author.Needs.{needs}
 use Rattle.receive.proofs.set_wndsize.Statement.{statement}
 use Rattle.receive.proofs.set_wndsize.Tie as tie
-use Rattle.receive.proofs.set_wndsize.Reads as reads
-use Rattle.receive.proofs.set_wndsize.Lts as lts
-use Rattle.block.proofs.Kcp.with_congestion.Reads as with-congestion-reads
-use Rattle.block.proofs.Kcp.with_receiver.Reads as with-receiver-reads
-use Rattle.receive.proofs.receive_window.Reads as receive-window-reads
-use Rattle.receive.proofs.send_window.Reads as send-window-reads
-use Rattle.receive.proofs.too_large.Reads as too-large-reads
 
--- src/lib.rt:359:8
 too-large-requires : tie.Need-too-large-requires
 too-large-requires c κs = search needs
 
--- src/lib.rt:360:9
 returns : tie.Need-returns
 unfolding windowsAt
 returns c = sym (pick-true _ _ (sym (c .before .too-large .ensures) ∙ c .if1 .taken))
 
--- src/lib.rt:367:9
 send-window-requires : tie.Need-send-window-requires
 send-window-requires c κs = search needs
 
--- src/lib.rt:368:9
 receive-window-requires : tie.Need-receive-window-requires
 receive-window-requires c κs = search needs
 
--- src/lib.rt:370:16
 with-congestion-requires : tie.Need-with-congestion-requires
 with-congestion-requires c κs = search needs
 
--- src/lib.rt:370:16
 with-receiver-requires : tie.Need-with-receiver-requires
 with-receiver-requires c κs = search needs
 
--- src/lib.rt:356:1
 returns-2 : tie.Need-returns-2
 unfolding windowsAt
 returns-2 c =

@@ -1,3 +1,4 @@
+-- `receive::tell_bit` meets its contract. Assumes nothing.
 use mathlib.Core.Path.{sym}
 use borrow.Author.Tests.{eq-eqb, ne-eqb}
 use Rattle.serial.specs.Branch.{pick-true, pick-false}
@@ -5,19 +6,14 @@ use Rattle.receive.specs.Memory.{tellBit}
 use borrow.Author.Needs.{needs}
 use Rattle.receive.proofs.tell_bit.Statement.{statement}
 use Rattle.receive.proofs.tell_bit.Tie as tie
-use Rattle.receive.proofs.tell_bit.Reads as reads
-use Rattle.receive.proofs.tell_bit.Lts as lts
 
--- src/lib.rt:274:9
 add-result : tie.Need-add-result
 add-result c = search needs
 
--- src/lib.rt:270:1
 returns : tie.Need-returns
 unfolding tellBit
 returns c = sym (pick-true _ _ (eq-eqb _ 0 (c .if1 .taken)))
 
--- src/lib.rt:270:1
 returns-2 : tie.Need-returns-2
 unfolding tellBit
 returns-2 c = sym (pick-false _ _ (ne-eqb _ 0 (c .if1 .left)))
