@@ -108,7 +108,7 @@ uint32_t kcp_set_wndsize(uint32_t *words, size_t count, uint16_t sndwnd, uint16_
                          const uint32_t *records, size_t numbers, const uint8_t *room, size_t bytes);
 
 /* A push alone, as input does it for each push of a datagram; here to be held against the Rust's, and to go when input comes. How many
-   pushes were skipped for want of room in the ack list, 0 or 1, is put into skipped: 0, or 11 (DatagramTooBig) where no slot holds the
+   pushes were skipped for want of room in the ack list, 0 or 1, is put into skipped, 0 where it is refused: 0, or 11 (DatagramTooBig) where no slot holds the
    payload, or 15. */
 uint32_t kcp_push(uint32_t *words, size_t count, uint32_t *order, size_t slots, uint32_t *records, size_t numbers, uint8_t *room,
                   size_t bytes, uint32_t *acks, size_t acks_numbers, const uint8_t *waiting, size_t waiting_bytes, uint32_t sn,
