@@ -24,6 +24,8 @@ use Rattle.block.specs.declared.refusal.Refusal.the-variants.{
 }
 use Rattle.block.specs.declared.refusal.Answer.{Answer}
 use Rattle.block.specs.declared.refusal.Answer.the-variants.{Done, Refused}
+use Rattle.block.specs.declared.refusal.Bytes.{Bytes}
+use Rattle.block.specs.declared.refusal.Bytes.the-variants.{Are, Refused as NoBytes}
 use Rattle.block.specs.declared.refusal.Values.{Values}
 
 abbrev pub numberOf : Refusal → ℕ
@@ -70,6 +72,15 @@ numberOfAnswer (Refused why) = numberOf why
 abbrev pub valuesOfAnswer : Answer → List ℕ
 valuesOfAnswer Done = []
 valuesOfAnswer (Refused why) = valuesOf why
+
+-- the same where bytes are counted: 0 and the count where nothing is refused
+abbrev pub numberOfBytes : Bytes → ℕ
+numberOfBytes (Are count) = 0
+numberOfBytes (NoBytes why) = numberOf why
+
+abbrev pub valuesOfBytes : Bytes → List ℕ
+valuesOfBytes (Are count) = count ∷ []
+valuesOfBytes (NoBytes why) = valuesOf why
 
 -- a list of at most two values as a row
 abbrev pub rowOf : List ℕ → Values

@@ -28,6 +28,12 @@ pub enum Answer {
     Refused { why: Refusal },
 }
 
+// What a call answers that counts bytes: those that a send queued or that an input read, or why there are none.
+pub enum Bytes {
+    Are { count: usize },
+    Refused { why: Refusal },
+}
+
 // The values of a refusal as a row: how many there are, and 0 in the place of one that is missing.
 pub struct Values {
     pub count: u32,
