@@ -1,4 +1,14 @@
 // The sending side's rules (specs/), and the loops over the segments in flight.
+ghost use mathlib.Core.Path.{_≡_};
+ghost use mathlib.Core.Bool.{false};
+ghost use mathlib.Core.List.{[]};
+ghost use Prim.Native.Nat.{ℕ, _+_, _*_, _<_, _≤_, max};
+ghost use lib.ListN.{length, getD};
+ghost use Rattle.lent.specs.Records.{numberAt};
+ghost use Rattle.slots.specs.Entries.{slotOf};
+ghost use Rattle.slots.specs.Pool.{lists, numbersAt};
+ghost use Rattle.sending.specs.Rules.{acknowledgedBy, unaOf, inFlight, stops, fastackOf, later, counts, pastThreshold, roundedUp, opened, cutTo, grown};
+ghost use Rattle.sending.specs.Numbers.{Ends};
 
 // The highest number that the acks of a datagram gave, max_ack, with its time, latest_ts, once an ack was seen.
 pub struct Latest {
@@ -11,4 +21,220 @@ pub struct Latest {
 pub struct Window {
     pub cwnd: u16,
     pub incr: u64,
+}
+
+// The flight record of a segment, as far as fastack goes.
+pub struct Flight {
+    pub number: u32,
+    pub ts: u32,
+    pub fastack: u32,
+}
+
+// Where the search for a number in flight ends, and whether it stands there.
+pub struct Sought {
+    pub at: usize,
+    pub met: bool,
+}
+
+// Number k of the segment at place i of the order: conv, frg, sn, ts, resendts, rto, fastack, xmit.
+pub fn number_of(order: &[u32], records: &[u32], i: usize, k: usize) -> u32
+    requires { ⌜ i < length (now order) ⌝ }
+    requires { ⌜ slotOf (getD (now order) i 0) * 8 + 8 ≤ length (now records) ⌝ }
+    requires { ⌜ k < 8 ⌝ }
+    ensures { λ r. ⌜ r ≡ numberAt 8 (now (records .entry)) (slotOf (getD (now (order .entry)) i 0)) k ⌝ }
+{
+    lent::number_at(records, 8, slots::slot_of(order[i]), k)
+}
+
+// How many of the `count` segments in flight una acknowledges: those at the front that are numbered before it.
+pub fn acknowledged_count(order: &[u32], records: &[u32], count: usize, una: u32) -> usize
+    requires { ⌜ count ≤ length (now order) ⌝ }
+    requires { ⌜ ((i : ℕ) → i < count → slotOf (getD (now order) i 0) * 8 + 8 ≤ length (now records)) ⌝ }
+    ensures { λ r. ⌜ r ≡ acknowledgedBy una (numbersAt 8 (lists (now (order .entry)) (now (records .entry)) []) 2 0 count) ⌝ }
+{
+    let mut i = 0;
+    while i < count {
+        if !serial::after(una, number_of(order, records, i, 2)) {
+            return i;
+        }
+        i += 1;
+    }
+    i
+}
+
+// The first number in flight, or the next number where none is in flight.
+pub fn una_of(order: &[u32], records: &[u32], count: usize, next: u32) -> u32
+    requires { ⌜ count ≤ length (now order) ⌝ }
+    requires { ⌜ ((i : ℕ) → i < count → slotOf (getD (now order) i 0) * 8 + 8 ≤ length (now records)) ⌝ }
+    ensures { λ r. ⌜ r ≡ unaOf next (numbersAt 8 (lists (now (order .entry)) (now (records .entry)) []) 2 0 count) ⌝ }
+{
+    if count == 0 {
+        return next;
+    }
+    number_of(order, records, 0, 2)
+}
+
+// Whether a number is from una on and before the next one.
+pub fn in_flight(una: u32, next: u32, sn: u32) -> bool
+    ensures { λ r. ⌜ r ≡ inFlight una next sn ⌝ }
+{
+    if serial::not_before(sn, una) {
+        return !serial::not_before(sn, next);
+    }
+    false
+}
+
+// Whether the search for sn stops at the number n: greater as a plain unsigned number.
+fn stops(sn: u32, n: u32) -> bool
+    ensures { λ r. ⌜ r ≡ stops sn n ⌝ }
+{
+    sn < n
+}
+
+// Searches for a number among the `count` in flight, from the front on.
+pub fn seek(order: &[u32], records: &[u32], count: usize, sn: u32) -> Sought
+    requires { ⌜ count ≤ length (now order) ⌝ }
+    requires { ⌜ ((i : ℕ) → i < count → slotOf (getD (now order) i 0) * 8 + 8 ≤ length (now records)) ⌝ }
+    ensures { λ r. ⌜ Ends sn (numbersAt 8 (lists (now (order .entry)) (now (records .entry)) []) 2 0 count) r ⌝ }
+{
+    let mut i = 0;
+    while i < count {
+        let n = number_of(order, records, i, 2);
+        if n == sn {
+            return Sought { at: i, met: true };
+        }
+        if stops(sn, n) {
+            return Sought { at: i, met: false };
+        }
+        i += 1;
+    }
+    Sought { at: i, met: false }
+}
+
+// The fastack of a flight record after the acks of a datagram: one more if it is numbered before max_ack, with ts not later than latest_ts.
+pub fn fastack_of(flight: Flight, max_ack: u32, latest_ts: u32) -> u32
+    ensures { λ r. ⌜ r ≡ fastackOf «max_ack» «latest_ts» (flight .number) (flight .ts) (flight .fastack) ⌝ }
+{
+    if serial::after(max_ack, flight.number) {
+        if serial::not_before(latest_ts, flight.ts) {
+            return serial::add(flight.fastack, 1);
+        }
+    }
+    flight.fastack
+}
+
+impl Latest {
+    // No ack was seen yet.
+    pub fn new() -> Latest
+        ensures { λ r. ⌜ r ≡ record { seen = false; sn = 0; ts = 0 } ⌝ }
+    {
+        Latest {
+            seen: false,
+            sn: 0,
+            ts: 0,
+        }
+    }
+
+    // With one more ack: the first one sets both, and a later one only if both are later.
+    pub fn later(self, sn: u32, ts: u32) -> Latest
+        ensures { λ r. ⌜ r ≡ later self sn ts ⌝ }
+    {
+        if self.seen {
+            if !serial::after(sn, self.sn) {
+                return self;
+            }
+            if !serial::after(ts, self.ts) {
+                return self;
+            }
+        }
+        Latest {
+            seen: true,
+            sn: sn,
+            ts: ts,
+        }
+    }
+
+    // Whether an ack was seen and its number is in flight.
+    pub fn counts(self, una: u32, next: u32) -> bool
+        ensures { λ r. ⌜ r ≡ counts self una next ⌝ }
+    {
+        if self.seen {
+            return in_flight(una, next, self.sn);
+        }
+        false
+    }
+}
+
+// The greater of two numbers.
+fn at_least(a: u64, b: u64) -> u64
+    ensures { λ r. ⌜ r ≡ max a b ⌝ }
+{
+    if a < b { b } else { a }
+}
+
+// The window's bytes after one step past the threshold.
+fn past_threshold(mss: u32, incr: u64) -> u64
+    requires { ⌜ 0 < mss ⌝ }
+    ensures { λ r. ⌜ r ≡ pastThreshold mss incr ⌝ }
+{
+    let size = mss as u64;
+    let base = at_least(incr, size);
+    let share = serial::mul64(size, size) / base;
+    serial::add64(base, serial::add64(share, size / 16))
+}
+
+// The window that so many bytes make, where they make one more than it is; its cast to u16 is kept.
+fn rounded_up(mss: u32, incr: u64, cwnd: u16) -> u16
+    requires { ⌜ 0 < mss ⌝ }
+    ensures { λ r. ⌜ r ≡ roundedUp mss incr cwnd ⌝ }
+{
+    let size = mss as u64;
+    if serial::mul64(cwnd as u64 + 1, size) <= incr {
+        return serial::low16_of_wide(serial::add64(incr, size - 1) / size);
+    }
+    cwnd
+}
+
+impl Window {
+    // One step of growth, under the threshold or past it.
+    fn opened(self, mss: u32, ssthresh: u16) -> Window
+        requires { ⌜ 0 < mss ⌝ }
+        ensures { λ r. ⌜ r ≡ opened mss ssthresh self ⌝ }
+    {
+        if self.cwnd < ssthresh {
+            return Window {
+                cwnd: serial::add16(self.cwnd, 1),
+                incr: serial::add64(self.incr, mss as u64),
+            };
+        }
+        let incr = past_threshold(mss, self.incr);
+        Window {
+            cwnd: rounded_up(mss, incr, self.cwnd),
+            incr: incr,
+        }
+    }
+
+    // Cut to the peer's window.
+    fn cut_to(self, mss: u32, rmt_wnd: u16) -> Window
+        ensures { λ r. ⌜ r ≡ cutTo mss «rmt_wnd» self ⌝ }
+    {
+        if rmt_wnd < self.cwnd {
+            return Window {
+                cwnd: rmt_wnd,
+                incr: serial::mul64(rmt_wnd as u64, mss as u64),
+            };
+        }
+        self
+    }
+
+    // The growth of an input that moved snd_una forward: one step, where the window is under the peer's.
+    pub fn grown(self, mss: u32, ssthresh: u16, rmt_wnd: u16) -> Window
+        requires { ⌜ 0 < mss ⌝ }
+        ensures { λ r. ⌜ r ≡ grown mss ssthresh «rmt_wnd» self ⌝ }
+    {
+        if self.cwnd < rmt_wnd {
+            return self.opened(mss, ssthresh).cut_to(mss, rmt_wnd);
+        }
+        self
+    }
 }
