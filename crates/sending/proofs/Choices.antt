@@ -1,8 +1,7 @@
 -- The decisions of the rules, by the tests that the code makes. Assumes nothing.
-use Prim.Native.Nat.{ℕ, _+_, _-_, _*_, _/_, _<_, _≤_, max}
-use mathlib.Core.Path.{_≡_, refl, sym, ap, _∙_}
+use Prim.Native.Nat.{ℕ, _+_, _-_, _/_, _<_, _≤_, max}
+use mathlib.Core.Path.{_≡_, _∙_}
 use mathlib.Core.Bool.{true, false}
-use lib.Dec.{ltb, leb}
 use borrow.Author.Tests.{lt-ltb, le-ltb, le-leb, lt-leb}
 use Rattle.serial.specs.Branch.{pick}
 use Rattle.serial.specs.Wrap.{add32, add16, add64, mul64, low16, notBefore, after}

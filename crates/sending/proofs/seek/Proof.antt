@@ -1,7 +1,7 @@
 -- `sending::seek` meets its contract. i are passed, and the search goes on. Assumes nothing.
 use native.Mathlib.Omega.{arith}
 use Prim.Native.Nat.{_+_, _-_, _≤_}
-use mathlib.Core.Path.{_≡_, refl, sym, ap, _∙_}
+use mathlib.Core.Path.{_≡_, sym, ap, _∙_}
 use mathlib.Core.List.{[]}
 use lib.ListN.{drop}
 use Rattle.slots.specs.Pool.{lists, numbersAt}
