@@ -25,6 +25,13 @@ use Rattle.sending.specs.Rules.{Segment, Sending, numbers, withFlying, acknowle
 use Rattle.transmit.specs.Memory.{segmentOf, segmentsAt, seen, inUse, flyingNumbers, Side, side, landed, shrunkAt, droppedAt, unaAt, removedAt, ackAt, numberIn, raisedOne, raisedFrom, fastackAt}
 use Rattle.transmit.proofs.Moved.{from-length, out-length}
 
+-- ---- what holds of either side holds of the choice
+
+pick-by : {A : Type 0} (P : A → Type 0) (t : Bool) (a b : A) → (t ≡ true → P a) → (t ≡ false → P b) → P (pick t a b)
+unfolding pick
+pick-by P true a b x y = x refl
+pick-by P false a b x y = y refl
+
 -- ---- the numbers that the decisions go by are those of the segments
 
 pub seen-numbers : (p : Lists) (from count : ℕ) → numbers (segmentsAt p from count) ≡ numbersAt 8 p 2 from count
@@ -176,25 +183,16 @@ module _ (s : Sender) (p : Lists) (x : Pool 8 (inUse s) p) where
 
     -- what holds of the one side and of the other holds of the outcome
     chosen-by : (P : Side → Type 0) → (place < s .flying → P (removedAt place s p)) → P (side s p) → P chosen
-    unfolding pick
-    chosen-by P a b = go isFound refl
-      where
-        go : (t : Bool) → isFound ≡ t → P (pick t (removedAt place s p) (side s p))
-        go true e = a (place-in e)
-        go false e = b
+    chosen-by P a b = pick-by P isFound (removedAt place s p) (side s p) (λ e. a (place-in e)) (λ e. b)
 
     abbrev rule : List ℕ → Sending
     rule l = cond (found (s .«snd_una») (s .«snd_nxt») sn l) (withFlying (seen s p) (removed (seen s p .flying) (seek sn l))) (seen s p)
 
     seen-chosen : seen (chosen .sender) (chosen .pool) ≡ rule (flyingNumbers s p)
-    unfolding pick
-    seen-chosen = go isFound refl
-      where
-        go : (t : Bool) → isFound ≡ t
-            → seen (pick t (removedAt place s p) (side s p) .sender) (pick t (removedAt place s p) (side s p) .pool)
-            ≡ cond t (withFlying (seen s p) (removed (seen s p .flying) place)) (seen s p)
-        go true e = seen-removed place (place-in e)
-        go false e = refl
+    seen-chosen =
+        pick-by (λ (y : Side). seen (y .sender) (y .pool) ≡ rule (flyingNumbers s p)) isFound (removedAt place s p) (side s p)
+        (λ e. rw e (seen-removed place (place-in e)))
+        (λ e. rw e)
 
     pub seen-ack : seen (ackAt sn s p .sender) (ackAt sn s p .pool) ≡ parseAck sn (seen s p)
     unfolding ackAt parseAck
@@ -365,38 +363,31 @@ module _ (s : Sender) (p : Lists) (x : Pool 8 (inUse s) p) where
     abbrev walked : Lists
     walked = raisedFrom (l .sn) (l .ts) (s .flying) 0 p
 
+    abbrev counted : Bool
+    counted = counts l (s .«snd_una») (s .«snd_nxt»)
+
     pub seen-fastack : seen s (fastackAt l s p) ≡ parseFastack l (seen s p)
-    unfolding fastackAt parseFastack pick
-    seen-fastack = go (counts l (s .«snd_una») (s .«snd_nxt»)) ∙ rw (seen-same s p .0, seen-same s p .1)
-      where
-        go : (t : Bool) → seen s (pick t walked p) ≡ cond t (withFlying (seen s p) (map (raised (l .sn) (l .ts)) (seen s p .flying))) (seen s p)
-        go true = seen-walked (l .sn) (l .ts)
-        go false = refl
+    unfolding fastackAt parseFastack
+    seen-fastack =
+        pick-by (λ (q : Lists). seen s q ≡ cond counted (withFlying (seen s p) (map (raised (l .sn) (l .ts)) (seen s p .flying))) (seen s p)) counted walked p
+        (λ e. rw e (seen-walked (l .sn) (l .ts)))
+        (λ e. rw e)
+        ∙ rw (seen-same s p .0, seen-same s p .1)
+
+    -- what holds of the one side and of the other holds of the outcome
+    fastack-by : (P : Lists → Type 0) → P walked → P p → P (fastackAt l s p)
+    unfolding fastackAt
+    fastack-by P a b = pick-by P counted walked p (λ e. a) (λ e. b)
 
     pub fastack-pool : Pool 8 (inUse s) (fastackAt l s p)
-    unfolding fastackAt pick
-    fastack-pool = go (counts l (s .«snd_una») (s .«snd_nxt»))
-      where
-        go : (t : Bool) → Pool 8 (inUse s) (pick t walked p)
-        go true = walked-pool (l .sn) (l .ts)
-        go false = x
+    fastack-pool = fastack-by (λ (q : Lists). Pool 8 (inUse s) q) (walked-pool (l .sn) (l .ts)) x
 
     -- order and room stay, and the records' length
     pub fastack-order : fastackAt l s p .order ≡ p .order
-    unfolding fastackAt pick
-    fastack-order = go (counts l (s .«snd_una») (s .«snd_nxt»))
-      where
-        go : (t : Bool) → pick t walked p .order ≡ p .order
-        go true = raised-order (l .sn) (l .ts) (s .flying) 0 p
-        go false = refl
+    fastack-order = fastack-by (λ (q : Lists). q .order ≡ p .order) (raised-order (l .sn) (l .ts) (s .flying) 0 p) refl
 
     pub fastack-bytes : fastackAt l s p .room ≡ p .room
-    unfolding fastackAt pick
-    fastack-bytes = go (counts l (s .«snd_una») (s .«snd_nxt»))
-      where
-        go : (t : Bool) → pick t walked p .room ≡ p .room
-        go true = raised-bytes (l .sn) (l .ts) (s .flying) 0 p
-        go false = refl
+    fastack-bytes = fastack-by (λ (q : Lists). q .room ≡ p .room) (raised-bytes (l .sn) (l .ts) (s .flying) 0 p) refl
 
     pub fastack-length : length (fastackAt l s p .order) ≡ length (p .order)
     fastack-length = ap length fastack-order

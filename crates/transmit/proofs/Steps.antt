@@ -172,9 +172,9 @@ walk-start m t count p = let a : count - 0 ≡ count = omega arith in rw a
 -- ---- `parse_fastack`
 
 module _ (l : Latest) (s : Sender) (p : Lists) (b : Bool) (e : b ≡ counts l (s .«snd_una») (s .«snd_nxt»)) where
-  pub fastack-yes : b ≡ true → raisedFrom (l .sn) (l .ts) (s .flying) 0 p ≡ fastackAt l s p
+  pub fastack-yes : b ≡ true → (q : Lists) → q ≡ raisedFrom (l .sn) (l .ts) (s .flying) 0 p → q ≡ fastackAt l s p
   unfolding fastackAt
-  fastack-yes h = sym (pick-true _ _ (sym e ∙ h))
+  fastack-yes h q d = d ∙ sym (pick-true _ _ (sym e ∙ h))
 
   pub fastack-no : b ≡ false → p ≡ fastackAt l s p
   unfolding fastackAt

@@ -154,11 +154,6 @@ pub fn fits(block: Kcp, order: &[u32], records: &[u32], room: &[u8]) -> bool
     if !numbers_fit(block, order.len(), records.len(), room.len()) {
         return false;
     }
-    slots::sound(
-        order,
-        records,
-        room,
-        Kcp::SND_RECORD,
-        block.sender.segments(),
-    )
+    let n = block.sender.segments();
+    slots::sound(order, records, room, Kcp::SND_RECORD, n)
 }

@@ -1,5 +1,4 @@
 -- `transmit::parse_fastack` meets its contract. Assumes nothing.
-use mathlib.Core.Path.{_∙_}
 use mathlib.Core.List.{[]}
 use Rattle.slots.specs.Pool.{lists}
 use Rattle.transmit.proofs.Steps.{walk-asks, fastack-yes, fastack-no}
@@ -25,7 +24,7 @@ same-length c = search needs
 returns : tie.Need-returns
 returns c =
     let a = c .before .before .before .before .before .before .before .before .before .args in
-    c .before .before .raise .ensures ∙ fastack-yes (a .latest) (a .sender) (lists (a .order .now) (a .records .now) []) _ (c .before .before .before .before .before .before .counts .ensures) (c .before .before .before .before .before .if1 .taken)
+    fastack-yes (a .latest) (a .sender) (lists (a .order .now) (a .records .now) []) _ (c .before .before .before .before .before .before .counts .ensures) (c .before .before .before .before .before .if1 .taken) _ (c .before .before .raise .ensures)
 
 returns-2 : tie.Need-returns-2
 returns-2 c = let a = c .before .before .before .before .args in fastack-no (a .latest) (a .sender) (lists (a .order .now) (a .records .now) []) _ (c .before .counts .ensures) (c .if1 .left)
