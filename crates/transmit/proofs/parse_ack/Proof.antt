@@ -53,7 +53,8 @@ take-out-requires c κs =
     let s = c .before .before .before .before .before .before .before .before .before .before .before in
     let a = s .args in
     let w = at-flying (a .sender) (a .order .now) (a .records .now) (s .pre) (a .sn) _ (c .before .before .before .before .before .before .before .before .in-flight .ensures) (c .before .before .before .before .before .before .before .if1 .left) _ (c .before .before .before .before .seek .ensures) (c .before .before .if2 .left) in
-    (omega arith, s .pre .many)
+    let m = s .pre .many in
+    (omega arith, omega arith)
 
 landed-requires : tie.Need-landed-requires
 landed-requires c κs =

@@ -37,7 +37,8 @@ drop-first-requires c κs =
     let s = c .before .before .before .before .before .before .before .before in
     let a = s .args in
     let w = few (a .sender) (a .order .now) (a .records .now) (s .pre) (a .una) _ (c .before .before .before .acknowledged-count .ensures) in
-    (omega arith, s .pre .many)
+    let m = s .pre .many in
+    (omega arith, omega arith)
 
 cast-landed : tie.Need-cast-landed
 cast-landed c =
