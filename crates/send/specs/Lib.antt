@@ -1,1 +1,3 @@
 pub mod Memory
+pub mod Marks
+pub mod Examples
