@@ -1,1 +1,4 @@
 pub mod Memory
+pub mod Marks
+pub mod Whole
+pub mod Examples

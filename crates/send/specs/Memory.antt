@@ -1,6 +1,7 @@
 -- What a send does to the block's numbers and to the lent memory, every number and byte. The decisions are those of the rule (sending/specs/Send),
 -- asked of the numbers in the pool. Assumes nothing.
-use Prim.Native.Nat.{ℕ, zero, suc, _+_, _-_}
+use Prim.Native.Nat.{ℕ, suc, _+_, _-_}
+use mathlib.Core.Path.{_≡_}
 use mathlib.Core.Bool.{Bool}
 use mathlib.Core.List.{List, [], _∷_}
 use lib.ListN.{length, take, drop, getD}
@@ -15,6 +16,7 @@ use Rattle.block.specs.declared.refusal.Refusal.the-variants.{UserBufTooBig, Se
 use Rattle.sending.specs.Rules.{Segment}
 use Rattle.sending.specs.Send.{fills, joins, needed, sendNumber, cut}
 use Rattle.transmit.specs.Memory.{inUse, Side, side}
+use Rattle.send.specs.declared.Sent.{Sent}
 
 -- ---- the fill
 
@@ -72,3 +74,8 @@ module _ (mss : ℕ) (stream : Bool) (bytes : List ℕ) (s : Sender) (p : Lists)
   -- "It answers the bytes queued"
   unfoldable pub answerAt : Bytes
   answerAt = pick (eqb numberAt 12) (Refused SendPoolFull) (pick (eqb numberAt 8) (Refused UserBufTooBig) (Are (length bytes)))
+
+-- what a send leaves of a sending side and the lent memory
+pub record SentAs (mss : ℕ) (stream : Bool) (bytes : List ℕ) (s : Sender) (p : Lists) (o : Sent) (p′ : Lists) : Type 0 where
+  pub sends : side (o .sender) p′ ≡ sendAt mss stream bytes s p
+  pub answers : o .answer ≡ answerAt mss stream bytes s p

@@ -84,7 +84,7 @@ fn fitting(order: &[u32], records: &[u32], room: &[u8], width: usize, n: usize) 
 }
 
 // Marks the slot of each of the first n entries, and adds up the marks that stood there when its turn came.
-fn mark(order: &[u32], n: usize, marks: &mut [u8]) -> usize
+pub fn mark(order: &[u32], n: usize, marks: &mut [u8]) -> usize
     requires { ⌜ n ≤ length (now order) ⌝ }
     requires { ⌜ n ≤ 65535 ⌝ }
     requires { ⌜ ((i : ℕ) → i < n → slotOf (getD (now order) i 0) < length (now marks)) ⌝ }
