@@ -4,8 +4,13 @@
 use std::{env, fs};
 
 /// A group of functions, and the one that stands for it.
-const GROUPS: [(&str, &str); 4] =
-    [("kcp_c_new", "kcp_new"), ("kcp_c_setters", "kcp_set_mtu"), ("kcp_c_receive", "kcp_recv"), ("kcp_c_push", "kcp_push")];
+const GROUPS: [(&str, &str); 5] = [
+    ("kcp_c_new", "kcp_new"),
+    ("kcp_c_setters", "kcp_set_mtu"),
+    ("kcp_c_receive", "kcp_recv"),
+    ("kcp_c_send", "kcp_send"),
+    ("kcp_c_input", "kcp_input"),
+];
 
 /// Whether an archive has a function of this name: its index of symbols holds the names, each with a zero byte behind it.
 fn has(archive: &[u8], name: &str) -> bool {

@@ -53,36 +53,37 @@ impl Pool {
         Pool { width, order: vec![STALE; slots], records: vec![STALE; slots * width], room: vec![0xEE; slots * ROOM] }
     }
 
-    /// Whether the front of the order holds just these segments, each in a slot of its own.
+    /// Whether the front of the order holds the payloads of just these segments, each in a slot of its own.
     fn holds<'a>(&self, segments: impl Iterator<Item = (&'a Segment, Vec<u32>)>) -> bool {
         let mut used = vec![false; self.order.len()];
-        for (n, (segment, numbers)) in segments.enumerate() {
+        for (n, (segment, _)) in segments.enumerate() {
             let entry = self.order.get(n).map_or(usize::MAX, |x| *x as usize);
             let (slot, len) = (entry % 65536, entry / 65536);
             if slot >= used.len() || used[slot] || len != segment.data.len() {
                 return false;
             }
             used[slot] = true;
-            if self.records[slot * self.width..][..self.width] != numbers[..] || self.room[slot * ROOM..][..len] != segment.data[..] {
+            if self.room[slot * ROOM..][..len] != segment.data[..] {
                 return false;
             }
         }
         true
     }
 
-    /// Puts the segments into slots that are scattered by `turn`, unless they stand there already.
+    /// Puts the segments into slots that are scattered by `turn`; where their payloads stand in slots already, these stay, and the
+    /// numbers alone are written.
     fn lay<'a>(&mut self, turn: usize, segments: impl Iterator<Item = (&'a Segment, Vec<u32>)> + Clone) {
-        if self.holds(segments.clone()) {
-            return;
-        }
+        let stay = self.holds(segments.clone());
         let slots = self.order.len();
         let step = stride(slots);
         for (n, (segment, numbers)) in segments.enumerate() {
-            let slot = (turn + n * step) % slots;
             let len = segment.data.len();
-            self.order[n] = (len * 65536 + slot) as u32;
+            let slot = if stay { self.order[n] as usize % 65536 } else { (turn + n * step) % slots };
             self.records[slot * self.width..][..self.width].copy_from_slice(&numbers);
-            self.room[slot * ROOM..][..len].copy_from_slice(&segment.data);
+            if !stay {
+                self.order[n] = (len * 65536 + slot) as u32;
+                self.room[slot * ROOM..][..len].copy_from_slice(&segment.data);
+            }
         }
     }
 

@@ -106,8 +106,9 @@ fn read_script(path: &str) -> Vec<(usize, Call)> {
     calls
 }
 
-fn other(wanted: &Wanted) -> Box<dyn Side> {
-    Box::new(Joined::new(Copy::default(), !wanted.copy))
+/// The other side; a script is short, and so watched in all.
+fn other(wanted: &Wanted, script: bool) -> Box<dyn Side> {
+    Box::new(Joined::new(Copy::default(), !wanted.copy, script))
 }
 
 /// The finding as a script that `--replay` takes.
@@ -165,7 +166,7 @@ fn replayed(wanted: &Wanted, path: &str, script: &[(usize, Call)]) -> (u64, Opti
         Some(Call::Start { .. }) => {}
         _ => usage(&format!("{}: a script begins with 'new'", path)),
     }
-    match replay(&mut Judge::default(), &mut *other(wanted), &calls, &wanted.plan.calls) {
+    match replay(&mut Judge::default(), &mut *other(wanted, true), &calls, &wanted.plan.calls) {
         Replay::Same(count) => (count, None),
         Replay::Differs(count, finding) => (count, Some(finding)),
         Replay::Leaves(i, why) => usage(&format!("{}:{}: leaves the domain of equality: {}", path, script[i].0, why)),
@@ -192,7 +193,7 @@ fn search(wanted: &Wanted) -> (u64, Option<Finding>) {
             eprint!("\r{} of {} calls, {} s ", calls, count, seconds);
         }
     };
-    let report = run(&mut Judge::default(), &mut *other(wanted), &wanted.plan, &mut progress);
+    let report = run(&mut Judge::default(), &mut *other(wanted, false), &wanted.plan, &mut progress);
     if terminal && told > 0 {
         eprintln!();
     }
@@ -205,7 +206,7 @@ fn search(wanted: &Wanted) -> (u64, Option<Finding>) {
                 eprintln!("a difference after {} calls; looking for the shortest sequence that shows it", report.calls);
             }
             let calls = &wanted.plan.calls;
-            let mut shows = |script: &[Call]| match replay(&mut Judge::default(), &mut *other(wanted), script, calls) {
+            let mut shows = |script: &[Call]| match replay(&mut Judge::default(), &mut *other(wanted, true), script, calls) {
                 Replay::Differs(_, finding) => Some(finding),
                 _ => None,
             };

@@ -1,18 +1,23 @@
 //! The port as a side: a block and the memory lent to it. Each call that comes gets its body here and its name in `has_call`, and
-//! the rows that need no other call then time it.
+//! the rows that time it and no other call then run. A call that the port lacks is made by the Rust, whose block takes the state
+//! over from the lent memory and gives it back: so rows are prepared, and none is timed.
 
 use crate::side::{give_up, Call, Side, Sizes};
+use kcp_judge::{inside, Kcp, KcpResult};
 use port::exports;
 use port::memory::Memory;
+use state::State;
+use std::io;
 
 pub struct Ours {
     memory: Memory,
+    copy: Kcp<io::Sink>,
+    s: State,
 }
 
-/// The memory lent for this window to send, so many receive slots, and as many acks as the window.
-fn lent(window: u16, slots: usize) -> Memory {
-    let most = (window as usize).max(128);
-    Memory::new(driver::call::Sizes { receive: slots, send: most, acks: most })
+/// The memory lent for this window, with so many slots to receive and to send.
+fn lent(window: u16, slots: [usize; 2]) -> Memory {
+    Memory::new(driver::call::Sizes { receive: slots[0], send: slots[1], acks: (window as usize).max(128) })
 }
 
 #[inline]
@@ -22,8 +27,20 @@ fn done(call: &str, number: u32) {
     }
 }
 
-fn lacks(call: &str) -> ! {
-    give_up(&format!("the port has no {} yet", call))
+impl Ours {
+    /// Has the Rust make a call that the port lacks.
+    fn made<T>(&mut self, name: &str, call: impl FnOnce(&mut Kcp<io::Sink>) -> KcpResult<T>) -> T {
+        self.memory.read(&mut self.s);
+        inside::lay(&mut self.copy, &self.s);
+        let answer = call(&mut self.copy).unwrap_or_else(|e| give_up(&format!("the Rust refused {}: {}", name, e)));
+        // the largest window, which the Rust does not keep, stays as it was
+        inside::read(&self.copy, &mut self.s);
+        if !self.memory.fits(&self.s) {
+            give_up(&format!("after {} the block does not fit the memory lent", name));
+        }
+        self.memory.lay(&self.s);
+        answer
+    }
 }
 
 // No call is inlined into a row, as the Rust's are not.
@@ -33,17 +50,18 @@ impl Side for Ours {
             Call::New => "new",
             Call::SetNodelay => "set_nodelay",
             Call::SetWndsize => "set_wndsize",
-            Call::Push => "push",
+            Call::Input => "input",
+            Call::Send => "send",
             Call::Recv => "recv",
-            Call::Input | Call::Send | Call::Flush | Call::Update | Call::Check => return false,
+            Call::Flush | Call::Update | Call::Check => return false,
         };
         exports::has(name)
     }
 
-    fn new(conv: u32, window: u16, slots: usize) -> Ours {
+    fn new(conv: u32, window: u16, slots: [usize; 2]) -> Ours {
         let mut memory = lent(window, slots);
         done("new", exports::new(&mut memory, conv, false));
-        Ours { memory }
+        Ours { memory, copy: Kcp::new(conv, io::sink()), s: State::default() }
     }
 
     fn set_nodelay(&mut self, nodelay: bool, interval: i32, resend: i32, nc: bool) {
@@ -54,19 +72,27 @@ impl Side for Ours {
         done("set_wndsize", exports::set_wndsize(&mut self.memory, sndwnd, rcvwnd))
     }
 
-    fn input(&mut self, _datagram: &[u8]) -> usize {
-        lacks("input")
+    #[inline(never)]
+    fn input(&mut self, datagram: &[u8]) -> usize {
+        if !exports::has("input") {
+            return self.made("input", |block| block.input(datagram));
+        }
+        let (mut values, mut skipped) = ([0; 2], 0);
+        done("input", exports::input(&mut self.memory, datagram, &mut values, &mut skipped));
+        if skipped != 0 {
+            give_up("the port skipped a push");
+        }
+        values[0]
     }
 
     #[inline(never)]
-    fn push(&mut self, sn: u32, payload: &[u8]) -> usize {
-        let mut skipped = 0;
-        done("push", exports::push(&mut self.memory, sn, 0, 0, payload, &mut skipped));
-        skipped as usize
-    }
-
-    fn send(&mut self, _message: &[u8]) -> usize {
-        lacks("send")
+    fn send(&mut self, message: &[u8]) -> usize {
+        if !exports::has("send") {
+            return self.made("send", |block| block.send(message));
+        }
+        let mut queued = 0;
+        done("send", exports::send(&mut self.memory, message, &mut queued));
+        queued
     }
 
     #[inline(never)]
@@ -77,19 +103,19 @@ impl Side for Ours {
     }
 
     fn flush(&mut self) {
-        lacks("flush")
+        self.made("flush", |block| block.flush())
     }
 
-    fn update(&mut self, _now: u32) {
-        lacks("update")
+    fn update(&mut self, now: u32) {
+        self.made("update", |block| block.update(now))
     }
 
-    fn check(&mut self, _now: u32) -> u32 {
-        lacks("check")
+    fn check(&mut self, now: u32) -> u32 {
+        self.made("check", |block| Ok(block.check(now)))
     }
 
     fn update_to(&mut self, _now: u32, _each: &mut dyn FnMut(&[u8])) {
-        lacks("update")
+        give_up("the port has no update yet")
     }
 
     fn forget(&mut self) {}
@@ -113,7 +139,7 @@ impl Side for Ours {
 
     fn fixed_bytes() -> Option<usize> {
         if Ours::has_call(Call::New) {
-            Some(lent(512, 1024).bytes())
+            Some(lent(512, [1024, 512]).bytes())
         } else {
             None
         }
