@@ -47,11 +47,13 @@ pub enum Profile {
     Queues,
     /// Sends of every length, most into streams; mss lowered under what waits, and the queue's end left in flight.
     Sends,
+    /// Many segments in flight, most at the wrap of their numbers, and acks of every order and kind, refusals among them.
+    Acks,
     /// The functions that take numbers and bytes alone.
     Leaves,
 }
 
-pub const PROFILES: [(Profile, &str); 17] = [
+pub const PROFILES: [(Profile, &str); 18] = [
     (Profile::Mixed, "mixed"),
     (Profile::Windows, "windows"),
     (Profile::Fragments, "fragments"),
@@ -68,6 +70,7 @@ pub const PROFILES: [(Profile, &str); 17] = [
     (Profile::Pushes, "pushes"),
     (Profile::Queues, "queues"),
     (Profile::Sends, "sends"),
+    (Profile::Acks, "acks"),
     (Profile::Leaves, "leaves"),
 ];
 
@@ -128,10 +131,13 @@ impl Generator {
         }
         let r = &mut self.random;
         let edge = |r: &mut Random| r.weighted(&[(0, 3), (r.clone().near(0), 1), (r.clone().near(1 << 31), 1), (0u32.wrapping_sub(1 + r.clone().below(60) as u32), 3), (r.clone().word(), 1)]);
-        let (mut rcv, snd) = (edge(r), edge(r));
+        let (mut rcv, mut snd) = (edge(r), edge(r));
         // the edge may lie in the middle of a long queue
         if self.profile == Profile::Queues && r.once_in(2) {
             rcv = rcv.wrapping_sub(r.below(600) as u32);
+        }
+        if self.profile == Profile::Acks && r.below(4) > 0 {
+            snd = 0u32.wrapping_sub(1 + r.below(90) as u32);
         }
         let conv = r.pick(&[1, 0, 0x1122_3344, u32::MAX]);
         let stream = r.once_in(if self.profile == Profile::Sends { 2 } else { 4 });

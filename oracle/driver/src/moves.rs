@@ -97,6 +97,10 @@ pub fn weights(profile: Profile) -> &'static [(Move, u32)] {
         Profile::Sends => &[
             (Send, 30), (SendLong, 12), (Mtu, 8), (Flush, 8), (Tick, 6), (Ack, 4), (AckRun, 6), (Several, 2), (Tell, 1), (Wndsize, 1), (Getter, 1),
         ],
+        Profile::Acks => &[
+            (Send, 10), (SendLong, 6), (Flush, 12), (Tick, 4), (Ack, 16), (AckRun, 8), (Several, 6), (Bad, 5), (Tell, 1), (Conv, 1), (Tune, 2),
+            (Settings, 1), (Recv, 1),
+        ],
         Profile::Leaves => &[(Leaf, 1)],
     }
 }
@@ -118,6 +122,10 @@ pub fn first_calls(g: &mut Generator) -> Vec<Call> {
         Profile::Growth => {
             calls.push(Call::SetNodelay(r.once_in(2), 10, r.pick(&[0, 1, 2, 3, 65533, 65534, 65535, 65536, 65537]), r.once_in(4)));
             calls.push(Call::SetWndsize(r.pick(&[2, 8, 64, 65535]), 0));
+        }
+        Profile::Acks => {
+            calls.push(Call::SetNodelay(true, 10, r.below(3) as i32, r.below(4) > 0));
+            calls.push(Call::SetWndsize(r.pick(&[40, 128, 65535]), 0));
         }
         Profile::Timeouts => {
             calls.push(Call::SetNodelay(r.once_in(2), 10, 0, r.once_in(2)));

@@ -2,7 +2,7 @@
 
 use driver::call::{parse, Call, LEAVES, NAMES};
 use driver::generator::PROFILES;
-use driver::run::{replay, run, Finding, Plan, Replay};
+use driver::run::{reach, replay, run, Finding, Plan, Replay};
 use driver::shrink::shrink;
 use driver::side::Side;
 use driver::{rust_side, Judge};
@@ -28,6 +28,7 @@ struct Wanted {
     progress: bool,
     rows: bool,
     departures: bool,
+    reach: bool,
     /// The other side is the copy of the Rust alone.
     copy: bool,
 }
@@ -40,6 +41,7 @@ fn arguments() -> Wanted {
         progress: false,
         rows: false,
         departures: false,
+        reach: false,
         copy: false,
     };
     let mut words = Vec::new();
@@ -52,6 +54,7 @@ fn arguments() -> Wanted {
             "--copy" => wanted.copy = true,
             "--rows" => wanted.rows = true,
             "--departures" => wanted.departures = true,
+            "--reach" => wanted.reach = true,
             "--progress" => wanted.progress = true,
             w if w.starts_with('-') => usage(&format!("unknown option '{}'", w)),
             _ => words.push(word),
@@ -131,6 +134,11 @@ fn main() {
     }
     if wanted.departures {
         table(port::departures::run());
+    }
+    if wanted.reach {
+        let (never, lines) = reach(&mut Judge::default(), &wanted.plan);
+        say(&format!("{}\n{} cases, {} never met\n", lines.join("\n"), lines.len(), never));
+        exit((never > 0) as i32)
     }
     let script = wanted.script.as_ref().map(|path| (path, read_script(path)));
     let mut text = String::new();
