@@ -2,7 +2,7 @@
 //! state, which is compared by itself.
 
 use crate::memory::{Memory, Pool, ROOM};
-use driver::call::Call;
+use driver::call::{Call, Piece};
 use driver::side::{Answer, Outcome};
 
 /// Where a send record has its fastack.
@@ -55,14 +55,18 @@ fn pooled(call: &Call) -> bool {
     }
 }
 
-/// Whether the call's payloads are watched: the same calls in every run.
+/// Whether the payloads are watched too: of every call that is apt to be refused and to leave all, and of some others, the same ones
+/// in every run.
 fn sampled(call: &Call, words: &[u32]) -> bool {
-    let n = match call {
-        Call::Send(fill) => fill.seed as usize,
-        Call::Input(pieces) => pieces.len() + received(words) + to_send(words) + Memory::word_of(words, "acks") as usize,
-        _ => return false,
-    };
-    n % 64 == 0
+    match call {
+        Call::Send(fill) => fill.seed % 64 == 0 || fill.len > 126 * Memory::word_of(words, "mss") as usize,
+        Call::Input(pieces) => match &pieces[..] {
+            [] => true,
+            [Piece::Raw(bytes)] if bytes.len() < 24 => true,
+            _ => (pieces.len() + received(words) + to_send(words) + Memory::word_of(words, "acks") as usize) % 64 == 0,
+        },
+        _ => false,
+    }
 }
 
 /// Whether a call with this answer leaves all as it was.
@@ -140,8 +144,13 @@ impl Before {
             }
             Call::Input(_) => {
                 let flying = Memory::word_of(&m.words, "flying") as usize;
-                let slots: Vec<usize> = m.send.order.iter().take(flying).map(|entry| *entry as usize % 65536).collect();
-                let record = Box::new(move |slot: usize, k: usize| k == FASTACK && slots.contains(&slot));
+                let mut flies = vec![false; m.send.order.len()];
+                for entry in m.send.order.iter().take(flying) {
+                    if let Some(flies) = flies.get_mut(*entry as usize % 65536) {
+                        *flies = true;
+                    }
+                }
+                let record = Box::new(move |slot: usize, k: usize| k == FASTACK && flies[slot]);
                 let order = if to_send(&m.words) < before { 0..before } else { 0..0 };
                 May { order, record, filled: None }
             }

@@ -1,6 +1,7 @@
 //! The port as a side: a block and the memory lent to it. Each call that comes gets its body here and its name in `has_call`, and
-//! the rows that time it and no other call then run. A call that the port lacks is made by the Rust, whose block takes the state
-//! over from the lent memory and gives it back: so rows are prepared, and none is timed.
+//! the rows that need no other call then time it. A flush that a row is prepared by, and that is not timed, is made by the Rust while
+//! the port has none: on a block that takes the state over from the lent memory, and gives it back. Only numbers go there and back,
+//! since a flush leaves payloads, so that those find the caches as the row's own calls left them.
 
 use crate::side::{give_up, Call, Side, Sizes};
 use kcp_judge::{inside, Kcp, KcpResult};
@@ -27,19 +28,23 @@ fn done(call: &str, number: u32) {
     }
 }
 
+fn lacks(call: &str) -> ! {
+    give_up(&format!("the port has no {} yet", call))
+}
+
 impl Ours {
-    /// Has the Rust make a call that the port lacks.
-    fn made<T>(&mut self, name: &str, call: impl FnOnce(&mut Kcp<io::Sink>) -> KcpResult<T>) -> T {
-        self.memory.read(&mut self.s);
+    /// Has the Rust make a flush or an update.
+    fn made(&mut self, call: impl FnOnce(&mut Kcp<io::Sink>) -> KcpResult<()>) {
+        self.memory.read_numbers(&mut self.s);
+        let segments = self.s.snd_buf.len() + self.s.snd_queue.len();
         inside::lay(&mut self.copy, &self.s);
-        let answer = call(&mut self.copy).unwrap_or_else(|e| give_up(&format!("the Rust refused {}: {}", name, e)));
+        call(&mut self.copy).unwrap_or_else(|e| give_up(&format!("the Rust refused a flush: {}", e)));
         // the largest window, which the Rust does not keep, stays as it was
         inside::read(&self.copy, &mut self.s);
-        if !self.memory.fits(&self.s) {
-            give_up(&format!("after {} the block does not fit the memory lent", name));
+        if self.s.snd_buf.len() + self.s.snd_queue.len() != segments {
+            give_up("a flush has changed how many segments there are to send");
         }
-        self.memory.lay(&self.s);
-        answer
+        self.memory.lay_numbers(&self.s);
     }
 }
 
@@ -74,9 +79,6 @@ impl Side for Ours {
 
     #[inline(never)]
     fn input(&mut self, datagram: &[u8]) -> usize {
-        if !exports::has("input") {
-            return self.made("input", |block| block.input(datagram));
-        }
         let (mut values, mut skipped) = ([0; 2], 0);
         done("input", exports::input(&mut self.memory, datagram, &mut values, &mut skipped));
         if skipped != 0 {
@@ -87,9 +89,6 @@ impl Side for Ours {
 
     #[inline(never)]
     fn send(&mut self, message: &[u8]) -> usize {
-        if !exports::has("send") {
-            return self.made("send", |block| block.send(message));
-        }
         let mut queued = 0;
         done("send", exports::send(&mut self.memory, message, &mut queued));
         queued
@@ -103,19 +102,19 @@ impl Side for Ours {
     }
 
     fn flush(&mut self) {
-        self.made("flush", |block| block.flush())
+        self.made(|block| block.flush())
     }
 
     fn update(&mut self, now: u32) {
-        self.made("update", |block| block.update(now))
+        self.made(|block| block.update(now))
     }
 
-    fn check(&mut self, now: u32) -> u32 {
-        self.made("check", |block| Ok(block.check(now)))
+    fn check(&mut self, _now: u32) -> u32 {
+        lacks("check")
     }
 
     fn update_to(&mut self, _now: u32, _each: &mut dyn FnMut(&[u8])) {
-        give_up("the port has no update yet")
+        lacks("update")
     }
 
     fn forget(&mut self) {}

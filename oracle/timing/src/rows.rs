@@ -45,7 +45,7 @@ pub fn all<S: Side>() -> Vec<Row<S>> {
 fn loopback<S: Side>(name: &'static str, window: u16) -> Row<S> {
     Row {
         name,
-        times: &[Call::Send, Call::Input, Call::Recv, Call::Update],
+        needs: &[Call::Send, Call::Input, Call::Recv, Call::Update],
         blocks: 2,
         window,
         calls: window as usize,
@@ -85,7 +85,7 @@ fn loopback<S: Side>(name: &'static str, window: u16) -> Row<S> {
 fn input_push<S: Side>(name: &'static str, slots: usize) -> Row<S> {
     Row {
         name,
-        times: &[Call::Input],
+        needs: &[Call::Input, Call::Recv],
         blocks: SOME,
         slots,
         calls: SOME,
@@ -109,7 +109,7 @@ fn input_push<S: Side>(name: &'static str, slots: usize) -> Row<S> {
 fn input_repeat<S: Side>() -> Row<S> {
     Row {
         name: "input-repeat-511-held",
-        times: &[Call::Input],
+        needs: &[Call::Input],
         window: 512,
         calls: OFTEN,
         before: Sizes { held: 511, ..NONE },
@@ -137,7 +137,7 @@ fn input_repeat<S: Side>() -> Row<S> {
 fn input_50_acks<S: Side>(name: &'static str, slots: usize) -> Row<S> {
     Row {
         name,
-        times: &[Call::Input],
+        needs: &[Call::Input, Call::Send],
         blocks: 4,
         slots,
         calls: 4,
@@ -156,7 +156,7 @@ fn input_50_acks<S: Side>(name: &'static str, slots: usize) -> Row<S> {
 fn input_50_acks_newest_first<S: Side>(name: &'static str, slots: usize) -> Row<S> {
     Row {
         name,
-        times: &[Call::Input],
+        needs: &[Call::Input, Call::Send],
         blocks: 2,
         slots,
         calls: 2,
@@ -179,7 +179,7 @@ fn send<S: Side>(name: &'static str, length: usize, segments: usize, slots: usiz
     let blocks = if segments == 1 { SOME } else { 1 };
     Row {
         name,
-        times: &[Call::Send],
+        needs: &[Call::Send, Call::Input],
         blocks,
         slots,
         calls: blocks,
@@ -201,14 +201,14 @@ fn send<S: Side>(name: &'static str, length: usize, segments: usize, slots: usiz
 
 /// Nothing to send, to resend or to ack.
 fn flush_idle<S: Side>() -> Row<S> {
-    Row { name: "flush-idle", times: &[Call::Flush], calls: OFTEN, run: flush_often, ..blank() }
+    Row { name: "flush-idle", needs: &[Call::Flush], calls: OFTEN, run: flush_often, ..blank() }
 }
 
 /// 128 segments of 1 KiB in flight, sent by the flush before.
 fn flush_none_due<S: Side>() -> Row<S> {
     Row {
         name: "flush-128-none-due",
-        times: &[Call::Flush],
+        needs: &[Call::Flush, Call::Send],
         calls: OFTEN,
         before: Sizes { in_flight: 128, ..NONE },
         after: Sizes { in_flight: 128, ..NONE },
@@ -222,7 +222,7 @@ fn flush_none_due<S: Side>() -> Row<S> {
 fn flush_sending<S: Side>() -> Row<S> {
     Row {
         name: "flush-128x1k",
-        times: &[Call::Flush],
+        needs: &[Call::Flush, Call::Send, Call::Input],
         before: Sizes { queued: 128, ..NONE },
         after: Sizes { in_flight: 128, datagrams: 128, bytes: 128 * (HEADER + KIB), ..NONE },
         prepare: |s| {
@@ -240,7 +240,7 @@ fn flush_sending<S: Side>() -> Row<S> {
 fn update_idle<S: Side>() -> Row<S> {
     Row {
         name: "update-idle",
-        times: &[Call::Update],
+        needs: &[Call::Update],
         calls: OFTEN,
         run: |s| {
             for _ in 0..OFTEN {
@@ -256,7 +256,7 @@ fn update_idle<S: Side>() -> Row<S> {
 fn check<S: Side>() -> Row<S> {
     Row {
         name: "check-128",
-        times: &[Call::Check],
+        needs: &[Call::Check, Call::Send],
         calls: OFTEN,
         before: Sizes { in_flight: 128, ..NONE },
         after: Sizes { in_flight: 128, ..NONE },
@@ -275,7 +275,7 @@ fn check<S: Side>() -> Row<S> {
 fn recv<S: Side>(name: &'static str, slots: usize) -> Row<S> {
     Row {
         name,
-        times: &[Call::Recv],
+        needs: &[Call::Recv, Call::Input],
         blocks: SOME,
         slots,
         calls: SOME,
@@ -293,7 +293,7 @@ fn recv<S: Side>(name: &'static str, slots: usize) -> Row<S> {
 fn recv_queued<S: Side>(name: &'static str, slots: usize) -> Row<S> {
     Row {
         name,
-        times: &[Call::Recv],
+        needs: &[Call::Recv, Call::Input],
         blocks: SOME,
         slots,
         calls: SOME,
@@ -317,7 +317,7 @@ fn recv_queued<S: Side>(name: &'static str, slots: usize) -> Row<S> {
 fn flush_acks<S: Side>() -> Row<S> {
     Row {
         name: "flush-128-acks",
-        times: &[Call::Flush],
+        needs: &[Call::Flush, Call::Input, Call::Recv],
         before: Sizes { acks: 128, ..NONE },
         after: Sizes { datagrams: 3, bytes: 128 * HEADER, ..NONE },
         start: |s| {

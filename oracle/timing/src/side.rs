@@ -1,4 +1,5 @@
-//! What the rows ask of a side. A call that a side has not yet is never timed: `has_call` says which it has.
+//! What the rows ask of a side. A call that a side has not yet is never timed: `has_call` says which it has. Only flush and
+//! update may then be made all the same, by another, where a row is prepared.
 
 /// The calls that rows are prepared and timed by.
 #[derive(Clone, Copy, PartialEq, Eq, Debug)]

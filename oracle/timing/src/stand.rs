@@ -30,8 +30,9 @@ pub struct Stand<S> {
 /// What is called, and in which state. One run of the timed calls, with what is done before and after it, is a stretch.
 pub struct Row<S> {
     pub name: &'static str,
-    /// The calls that it times, which must be the side's own; those that it prepares by may be made by another.
-    pub times: &'static [Call],
+    /// The calls that must be the side's own besides those of `MAKING`: those that it times, and those that it is prepared by. But a
+    /// flush or an update that prepares it may be made by another.
+    pub needs: &'static [Call],
     pub blocks: usize,
     pub window: u16,
     /// The slots to receive and as many to send, lent to a side whose memory is fixed; 0 is for twice the window to receive, and
@@ -57,7 +58,7 @@ pub struct Row<S> {
 pub fn blank<S: Side>() -> Row<S> {
     Row {
         name: "",
-        times: &[],
+        needs: &[],
         blocks: 1,
         window: 128,
         slots: 0,
@@ -81,7 +82,7 @@ struct Ready<S> {
 impl<S: Side> Row<S> {
     /// The row, ready to be timed; none if the side lacks a call that it needs.
     pub fn ready(self) -> Option<Box<dyn Timed>> {
-        if !S::has(MAKING) || !S::has(self.times) {
+        if !S::has(MAKING) || !S::has(self.needs) {
             return None;
         }
         let mut stand = self.stand();
