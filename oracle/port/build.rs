@@ -4,15 +4,19 @@
 use std::{env, fs};
 
 /// A group of functions, and the one that stands for it.
-const GROUPS: [(&str, &str); 4] =
-    [("kcp_c_new", "kcp_new"), ("kcp_c_setters", "kcp_set_mtu"), ("kcp_c_receive", "kcp_recv"), ("kcp_c_push", "kcp_push")];
+const GROUPS: [(&str, &str); 5] = [
+    ("kcp_c_new", "kcp_new"),
+    ("kcp_c_setters", "kcp_set_mtu"),
+    ("kcp_c_receive", "kcp_recv"),
+    ("kcp_c_send", "kcp_send"),
+    ("kcp_c_input", "kcp_input"),
+];
 
-/// Whether an archive has a function of this name: its index of symbols holds the names, each with a zero byte behind it.
-fn has(archive: &[u8], name: &str) -> bool {
-    let mut wanted = vec![0];
-    wanted.extend_from_slice(name.as_bytes());
-    wanted.push(0);
-    archive.windows(wanted.len()).any(|w| w == &wanted[..])
+/// The names in an archive's index of symbols, which is its first member, in the form of ar: how many, a place for each, the names.
+fn names(archive: &[u8]) -> Option<Vec<&[u8]>> {
+    let index = archive.strip_prefix(b"!<arch>\n/ ")?.get(58..)?;
+    let count = index.get(..4)?.iter().fold(0, |n, byte| n << 8 | *byte as usize);
+    Some(index.get(4 + 4 * count..)?.split(|byte| *byte == 0).take(count).collect())
 }
 
 fn main() {
@@ -28,7 +32,8 @@ fn main() {
         println!("cargo:rustc-link-lib=static=kcp_c");
         println!("cargo:rustc-cfg=kcp_c");
         let archive = fs::read(&path).unwrap_or_default();
-        for (group, _) in GROUPS.iter().filter(|g| has(&archive, g.1)) {
+        let names = names(&archive).unwrap_or_else(|| panic!("{} has no index of symbols", path));
+        for (group, _) in GROUPS.iter().filter(|g| names.contains(&g.1.as_bytes())) {
             println!("cargo:rustc-cfg={}", group);
         }
     }

@@ -101,8 +101,6 @@ pub enum Call {
     Start { conv: u32, stream: bool, rcv: u32, snd: u32, sizes: Sizes },
     Tune(Tuned, u64),
     Input(Vec<Piece>),
-    /// The push part of input by itself, from its number tests on: sn, frg, ts, payload. No una, no wnd, no conv.
-    Push(u32, u8, u32, Fill),
     Recv(usize),
     Peeksize,
     Send(Fill),
@@ -161,8 +159,8 @@ pub const GETTERS: [(Getter, &str); 11] = [
 ];
 
 /// The names by which calls are chosen on the command line; the same words begin the lines of a script.
-pub const NAMES: [&str; 37] = [
-    "new", "input", "push", "recv", "peeksize", "send", "update", "flush", "flush_ack", "check", "move_buf", "set_mtu", "set_interval",
+pub const NAMES: [&str; 36] = [
+    "new", "input", "recv", "peeksize", "send", "update", "flush", "flush_ack", "check", "move_buf", "set_mtu", "set_interval",
     "set_nodelay", "set_wndsize", "set_rx_minrto", "set_fast_resend", "set_maximum_resend_times", "input_conv", "set_conv",
     "conv", "waiting_conv", "mtu", "mss", "snd_wnd", "rcv_wnd", "rmt_wnd", "wait_snd", "header_len", "is_stream", "is_dead_link",
     "helper_get_conv", "helper_set_conv", "helper_get_sn", "timediff", "bound", "estimate",
@@ -178,7 +176,6 @@ impl Call {
             Call::Start { .. } => "new",
             Call::Tune(..) => "tune",
             Call::Input(_) => "input",
-            Call::Push(..) => "push",
             Call::Recv(_) => "recv",
             Call::Peeksize => "peeksize",
             Call::Send(_) => "send",
@@ -268,7 +265,6 @@ impl Display for Call {
                 }
                 Ok(())
             }
-            Call::Push(sn, frg, ts, fill) => write!(f, " {} {} {} {}.{}", sn, frg, ts, fill.len, fill.seed),
             Call::Send(fill) => write!(f, " {}.{}", fill.len, fill.seed),
             Call::Recv(n) | Call::SetMtu(n) => write!(f, " {}", n),
             Call::Update(n)
@@ -443,7 +439,7 @@ pub fn parse(line: &str) -> Read<Option<Call>> {
     let most = match name {
         "new" | "input" | "encode" => usize::MAX,
         "estimate" => 7,
-        "push" | "set_nodelay" => 5,
+        "set_nodelay" => 5,
         "bound" => 4,
         "tune" | "timediff" | "set_wndsize" | "helper_set_conv" => 3,
         _ => 2,
@@ -466,7 +462,6 @@ pub fn parse(line: &str) -> Read<Option<Call>> {
             let pieces: Read<Vec<Piece>> = rest.split(';').filter(|p| !p.trim().is_empty()).map(piece).collect();
             Call::Input(pieces?)
         }
-        "push" => Call::Push(number(w(1))?, number(w(2))?, number(w(3))?, fill(w(4))?),
         "recv" => Call::Recv(length(w(1))?),
         "peeksize" => Call::Peeksize,
         "send" => Call::Send(fill(w(1))?),

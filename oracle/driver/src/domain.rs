@@ -1,7 +1,7 @@
 //! Document 01's domain of equality: where the port and the Rust must agree. A call leaves it where the port would answer 11 to 16
 //! or skip a push, where mtu passes 1,500, or where peeksize meets a front segment with frg 255.
 
-use crate::call::{datagram, Call, Sizes, PUSH};
+use crate::call::{datagram, Call, Sizes, Tuned, PUSH};
 use state::State;
 
 /// The longest message, buffer and setting that a script may name.
@@ -20,10 +20,6 @@ pub fn leaves(call: &Call, s: &State, sizes: Sizes) -> Option<&'static str> {
             }
             None
         }
-        Call::Push(_, _, _, fill) if fill.len > 1476 => Some("a payload over 1,476 bytes"),
-        Call::Push(sn, ..) if acknowledged(*sn, s) && s.acklist.len() >= sizes.acks => {
-            Some("a push that the ack list has no room for")
-        }
         Call::Send(fill) if !send_fits(s, fill.len, sizes.send) => Some("a send that finds no free slots"),
         Call::SetWndsize(_, rcv) if *rcv > 0 && 2 * (*rcv).max(128) as usize > sizes.receive => {
             Some("a receive window over half of the slots")
@@ -33,19 +29,15 @@ pub fn leaves(call: &Call, s: &State, sizes: Sizes) -> Option<&'static str> {
             Some("a front segment with frg 255")
         }
         Call::Start { sizes, .. } if !lendable(*sizes) => Some("sizes outside the limits"),
+        Call::Tune(Tuned::Ahead, by) if (*by as u32) < s.snd_nxt.wrapping_sub(s.snd_una) => {
+            Some("numbers in flight that would no longer rise")
+        }
         _ => None,
     }
 }
 
 fn lendable(s: Sizes) -> bool {
     (256..=1024).contains(&s.receive) && (128..=1024).contains(&s.send) && (128..=4096).contains(&s.acks)
-}
-
-/// Whether a push with this number is acknowledged.
-fn acknowledged(sn: u32, s: &State) -> bool {
-    let d = sn.wrapping_sub(s.rcv_nxt);
-    let wnd = s.rcv_wnd as u32;
-    d < wnd || d >= (1 << 31) + wnd
 }
 
 /// Whether a push of the datagram would be acknowledged with the list full. It walks as input does; since a push can move

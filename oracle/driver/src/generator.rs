@@ -41,15 +41,19 @@ pub enum Profile {
     Link,
     /// Lists and pools filled to the brim: acks that are not flushed, segments that are not acked, messages that are not read.
     Full,
-    /// Pushes as a call of their own, in and out of order, again, old and beyond the window; recv, peeksize and move_buf among them.
+    /// Datagrams of one push, in and out of order, again, old and beyond the window; recv, peeksize and move_buf among them.
     Pushes,
     /// Long stretches of such pushes: queues and held segments over every window, which is raised and lowered, and read empty again.
     Queues,
+    /// Sends of every length, most into streams; mss lowered under what waits, and the queue's end left in flight.
+    Sends,
+    /// Many segments in flight, most at the wrap of their numbers, and acks of every order and kind, refusals among them.
+    Acks,
     /// The functions that take numbers and bytes alone.
     Leaves,
 }
 
-pub const PROFILES: [(Profile, &str); 16] = [
+pub const PROFILES: [(Profile, &str); 18] = [
     (Profile::Mixed, "mixed"),
     (Profile::Windows, "windows"),
     (Profile::Fragments, "fragments"),
@@ -65,6 +69,8 @@ pub const PROFILES: [(Profile, &str); 16] = [
     (Profile::Full, "full"),
     (Profile::Pushes, "pushes"),
     (Profile::Queues, "queues"),
+    (Profile::Sends, "sends"),
+    (Profile::Acks, "acks"),
     (Profile::Leaves, "leaves"),
 ];
 
@@ -125,13 +131,16 @@ impl Generator {
         }
         let r = &mut self.random;
         let edge = |r: &mut Random| r.weighted(&[(0, 3), (r.clone().near(0), 1), (r.clone().near(1 << 31), 1), (0u32.wrapping_sub(1 + r.clone().below(60) as u32), 3), (r.clone().word(), 1)]);
-        let (mut rcv, snd) = (edge(r), edge(r));
+        let (mut rcv, mut snd) = (edge(r), edge(r));
         // the edge may lie in the middle of a long queue
         if self.profile == Profile::Queues && r.once_in(2) {
             rcv = rcv.wrapping_sub(r.below(600) as u32);
         }
+        if self.profile == Profile::Acks && r.below(4) > 0 {
+            snd = 0u32.wrapping_sub(1 + r.below(90) as u32);
+        }
         let conv = r.pick(&[1, 0, 0x1122_3344, u32::MAX]);
-        let stream = r.once_in(4);
+        let stream = r.once_in(if self.profile == Profile::Sends { 2 } else { 4 });
         self.clock = r.weighted(&[(0, 3), (r.clone().below(1000) as u32, 3), (r.clone().near(1 << 31), 1), (0u32.wrapping_sub(r.clone().below(400) as u32), 2), (r.clone().word(), 1)]);
         self.pending.push_back(Call::Start { conv, stream, rcv, snd, sizes: self.sizes });
         let calls = moves::first_calls(self);
@@ -161,7 +170,7 @@ impl Generator {
                 return Some(call);
             }
             // a stretch of pushes has filled the ack list, and goes on when that is flushed
-            if call.name() == "push" && !s.acklist.is_empty() {
+            if call.name() == "input" && !s.acklist.is_empty() {
                 self.pending.push_front(call);
                 return Some(self.empty_acks(s));
             }

@@ -5,6 +5,7 @@ pub mod domain;
 pub mod generator;
 pub mod moves;
 pub mod random;
+pub mod reach;
 pub mod rows;
 pub mod run;
 pub mod rust_side;

@@ -10,7 +10,7 @@ pub enum Move {
     Push,
     Big,
     PushRun,
-    /// A push as a call of its own, and a stretch of them.
+    /// A push as a datagram of its own, and a stretch of them.
     Only,
     Stretch,
     Ack,
@@ -94,6 +94,13 @@ pub fn weights(profile: Profile) -> &'static [(Move, u32)] {
         Profile::Queues => &[
             (Stretch, 24), (Only, 10), (Recv, 6), (Reads, 3), (Wndsize, 10), (MoveBuf, 3), (Peek, 2), (FlushAck, 1), (Tick, 1), (Settings, 1),
         ],
+        Profile::Sends => &[
+            (Send, 30), (SendLong, 12), (Mtu, 8), (Flush, 8), (Tick, 6), (Ack, 4), (AckRun, 6), (Several, 2), (Tell, 1), (Wndsize, 1), (Getter, 1),
+        ],
+        Profile::Acks => &[
+            (Send, 10), (SendLong, 6), (Flush, 12), (Tick, 4), (Ack, 16), (AckRun, 8), (Several, 6), (Bad, 5), (Tell, 1), (Conv, 1), (Tune, 2),
+            (Settings, 1), (Recv, 1),
+        ],
         Profile::Leaves => &[(Leaf, 1)],
     }
 }
@@ -115,6 +122,10 @@ pub fn first_calls(g: &mut Generator) -> Vec<Call> {
         Profile::Growth => {
             calls.push(Call::SetNodelay(r.once_in(2), 10, r.pick(&[0, 1, 2, 3, 65533, 65534, 65535, 65536, 65537]), r.once_in(4)));
             calls.push(Call::SetWndsize(r.pick(&[2, 8, 64, 65535]), 0));
+        }
+        Profile::Acks => {
+            calls.push(Call::SetNodelay(true, 10, r.below(3) as i32, r.below(4) > 0));
+            calls.push(Call::SetWndsize(r.pick(&[40, 128, 65535]), 0));
         }
         Profile::Timeouts => {
             calls.push(Call::SetNodelay(r.once_in(2), 10, 0, r.once_in(2)));
@@ -333,7 +344,7 @@ fn push_run(g: &mut Generator, s: &State) -> Call {
     Call::Input(pieces)
 }
 
-/// A fragment number of a push by itself: mostly an end. Large ones hold the queue up, so that one sequence in three has them.
+/// A fragment number of a push that is a datagram of its own: mostly an end. Large ones hold the queue up, so that one sequence in three has them.
 fn mark(g: &mut Generator) -> u8 {
     let large = (g.sizes.send == 128) as u32;
     let r = &mut g.random;
@@ -343,12 +354,13 @@ fn mark(g: &mut Generator) -> u8 {
     r.weighted(&[(0, 60), (1, 6), (2, 4), (3, 3), (7, large), (100, large), (127, large), (128, large), (254, large)])
 }
 
-/// A push as a call of its own.
+/// A push as a datagram of its own, that leaves the send side alone.
 fn only(g: &mut Generator, s: &State, sn: u32) -> Call {
     let frg = mark(g);
     let ts = stamp(&mut g.random, s);
     let n = g.random.weighted(&[(0, 6), (1, 20), (5, 12), (20, 8), (200, 2), (1376, 1), (1476, 1)]);
-    Call::Push(sn, frg, ts, g.fill(n))
+    let h = Header { conv: s.conv, cmd: PUSH, frg, wnd: s.rmt_wnd, ts, sn, una: s.snd_una, len: None };
+    Call::Input(vec![Piece::Segment(h, g.fill(n))])
 }
 
 /// Pushes one by one: from the awaited number, from behind the last held one, past a hole, or over the window's far edge; in
@@ -479,7 +491,8 @@ fn any_piece(g: &mut Generator, s: &State) -> Piece {
 
 /// Segments of several kinds, sometimes with a tail too short for a header.
 fn several(g: &mut Generator, s: &State) -> Call {
-    let mut pieces = some(g, s, any_piece, 5);
+    let most = g.random.pick(&[5, 5, 12]);
+    let mut pieces = some(g, s, any_piece, most);
     if g.random.once_in(4) {
         let n = 1 + g.random.below(23);
         pieces.push(Piece::Raw(vec![7; n]));
@@ -612,7 +625,7 @@ fn tune(g: &mut Generator, s: &State) -> Call {
         6 => Call::Tune(Tuned::Xmit(at), r.pick(&[1, 4, 5, 6, 7])),
         // one segment stuck, the rest of a long range acked, and a fast resend due
         7 => {
-            let ahead = r.pick(&[1_200, 2_000, 6_000, 65_534, 65_535]);
+            let ahead = r.pick(&[1_200, 2_000, 6_000, 65_534, 65_535]).max(s.snd_nxt.wrapping_sub(s.snd_una) as u64);
             g.queue(vec![Call::Tune(Tuned::Fastack(at), resent as u64), Call::Flush]);
             Call::Tune(Tuned::Ahead, ahead)
         }

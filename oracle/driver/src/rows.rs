@@ -1,5 +1,5 @@
 //! Document 01's worked values that concern the Rust, run on a side, and after them two of its plausible slips. The rows that only
-//! the port can show (a window over half of the slots, mtu 1,501) are with its departures; 1,501 bytes come with its input.
+//! the port can show (a window over half of the slots, mtu 1,501, input of 1,501 bytes) are with its departures.
 
 use crate::call::{Call, Fill, Header, Piece, Sizes, ACK, PUSH, TELL};
 use crate::side::{Answer, Outcome, Side};

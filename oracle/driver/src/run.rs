@@ -3,6 +3,7 @@
 use crate::call::{Call, Sizes, Tuned, LEAVES};
 use crate::domain;
 use crate::generator::{Generator, Profile};
+use crate::reach::Reach;
 use crate::side::{Answer, Outcome, Side};
 use state::State;
 
@@ -195,6 +196,26 @@ pub fn run(judge: &mut dyn Side, other: &mut dyn Side, plan: &Plan, progress: &m
         progress(calls);
     }
     Report { calls, finding: None, idle: false }
+}
+
+/// Makes the plan's calls on the judge alone, and tells which cases they meet: how many are never met, and a line for each.
+pub fn reach(judge: &mut dyn Side, plan: &Plan) -> (usize, Vec<String>) {
+    let mut reach = Reach::default();
+    let (mut calls, mut sequence) = (0, 0);
+    let (mut now, mut after, mut out) = (State::default(), State::default(), Outcome::new());
+    while calls < plan.count {
+        let mut generator = Generator::new(plan.seed, sequence, plan.profile, &plan.calls);
+        sequence += 1;
+        while let Some(call) = generator.next(&now) {
+            judge.apply(&call, &mut out);
+            judge.read(&mut after);
+            reach.saw(&now, &call, &out, &after, generator.sizes);
+            std::mem::swap(&mut now, &mut after);
+            generator.saw(&out);
+            calls += 1;
+        }
+    }
+    reach.table()
 }
 
 /// What came of a script.

@@ -209,11 +209,6 @@ macro_rules! rust_side {
                         A::Nothing
                     }
                     C::Input(pieces) => $name::counted(k.input(&$crate::call::datagram(pieces))),
-                    C::Push(sn, frg, ts, fill) => {
-                        let bytes: Vec<u8> = fill.bytes().collect();
-                        $krate::inside::push_of(k, *sn, *frg, *ts, &bytes);
-                        A::Nothing
-                    }
                     C::Recv(n) => {
                         out.buffer.resize(*n, $crate::rust_side::BLANK);
                         $name::counted(k.recv(&mut out.buffer))

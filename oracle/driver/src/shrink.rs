@@ -112,14 +112,6 @@ fn simpler(call: &Call) -> Vec<Call> {
             Call::Start { conv: *conv, stream: *stream, rcv: 0, snd: *snd, sizes: *sizes },
             Call::Start { conv: *conv, stream: *stream, rcv: *rcv, snd: 0, sizes: *sizes },
         ],
-        Call::Push(sn, frg, ts, fill) => {
-            let lengths = [0, 1, fill.len / 2];
-            let mut all: Vec<Call> =
-                lengths.iter().map(|n| Call::Push(*sn, *frg, *ts, crate::call::Fill { len: *n, seed: fill.seed })).collect();
-            all.push(Call::Push(*sn, 0, *ts, *fill));
-            all.push(Call::Push(*sn, *frg, 0, *fill));
-            all
-        }
         Call::Send(fill) => {
             let lengths = [0, 1, fill.len / 2, fill.len.saturating_sub(1)];
             lengths.iter().map(|n| Call::Send(crate::call::Fill { len: *n, seed: fill.seed })).collect()

@@ -3,12 +3,12 @@
 
 use crate::memory::{Memory, Pool};
 use crate::watch::Before;
-use driver::call::{Call, Header, LEAVES};
+use driver::call::{datagram, Call, Header, LEAVES};
 use driver::rust_side::BLANK;
 use driver::side::{Answer, Outcome};
 
 /// The calls of each group, by name, and whether the library has the group.
-const GROUPS: [(bool, &[&str]); 5] = [
+const GROUPS: [(bool, &[&str]); 6] = [
     (cfg!(kcp_c), &["timediff", "bound", "encode", "estimate", "helper_get_conv", "helper_set_conv", "helper_get_sn"]),
     (cfg!(kcp_c_new), &["new"]),
     (
@@ -19,7 +19,8 @@ const GROUPS: [(bool, &[&str]); 5] = [
         ],
     ),
     (cfg!(kcp_c_receive), &["recv", "peeksize", "move_buf", "set_wndsize"]),
-    (cfg!(kcp_c_push), &["push"]),
+    (cfg!(kcp_c_send), &["send"]),
+    (cfg!(kcp_c_input), &["input"]),
 ];
 
 /// The calls that the port has.
@@ -53,7 +54,7 @@ macro_rules! linked {
     };
 }
 
-#[cfg(not(all(kcp_c, kcp_c_new, kcp_c_setters, kcp_c_receive, kcp_c_push)))]
+#[cfg(not(all(kcp_c, kcp_c_new, kcp_c_setters, kcp_c_receive, kcp_c_send, kcp_c_input)))]
 fn lacking(name: &str) -> ! {
     eprintln!("the library has no {}", name);
     std::process::exit(2)
@@ -118,12 +119,20 @@ linked! {
             order: *const u32, slots: usize, records: *const u32, numbers: usize, room: *const u8, bytes: usize,
         ) -> u32;
     }
-    kcp_c_push {
-        fn kcp_push(
+    kcp_c_send {
+        fn kcp_send(
             words: *mut u32, n: usize,
-            order: *mut u32, slots: usize, records: *mut u32, numbers: usize, room: *mut u8, bytes: usize,
+            snd_order: *mut u32, snd_slots: usize, snd_records: *mut u32, snd_numbers: usize, snd_room: *mut u8, snd_bytes: usize,
+            data: *const u8, len: usize, queued: *mut usize,
+        ) -> u32;
+    }
+    kcp_c_input {
+        fn kcp_input(
+            words: *mut u32, n: usize,
+            rcv_order: *mut u32, rcv_slots: usize, rcv_records: *mut u32, rcv_numbers: usize, rcv_room: *mut u8, rcv_bytes: usize,
+            snd_order: *mut u32, snd_slots: usize, snd_records: *mut u32, snd_numbers: usize, snd_room: *const u8, snd_bytes: usize,
             acks: *mut u32, ack_numbers: usize, waiting: *const u8, waiting_bytes: usize,
-            sn: u32, frg: u8, ts: u32, payload: *const u8, len: usize, skipped: *mut u32,
+            data: *const u8, len: usize, values: *mut [usize; 2], skipped: *mut u32,
         ) -> u32;
     }
 }
@@ -255,15 +264,28 @@ pub fn recv(m: &mut Memory, buf: &mut [u8], length: &mut usize) -> u32 {
     }
 }
 
-pub fn push(m: &mut Memory, sn: u32, frg: u8, ts: u32, payload: &[u8], skipped: &mut u32) -> u32 {
-    let (w, a, b) = (&mut m.words, &mut m.acks, &m.waiting);
-    let Pool { order, records, room, .. } = &mut m.receive;
+pub fn send(m: &mut Memory, data: &[u8], queued: &mut usize) -> u32 {
+    let w = &mut m.words;
+    let Pool { order, records, room, .. } = &mut m.send;
     unsafe {
-        kcp_push(
+        kcp_send(
             w.as_mut_ptr(), w.len(),
             order.as_mut_ptr(), order.len(), records.as_mut_ptr(), records.len(), room.as_mut_ptr(), room.len(),
+            data.as_ptr(), data.len(), queued,
+        )
+    }
+}
+
+pub fn input(m: &mut Memory, data: &[u8], values: &mut [usize; 2], skipped: &mut u32) -> u32 {
+    let (w, a, b) = (&mut m.words, &mut m.acks, &m.waiting);
+    let (r, s) = (&mut m.receive, &mut m.send);
+    unsafe {
+        kcp_input(
+            w.as_mut_ptr(), w.len(),
+            r.order.as_mut_ptr(), r.order.len(), r.records.as_mut_ptr(), r.records.len(), r.room.as_mut_ptr(), r.room.len(),
+            s.order.as_mut_ptr(), s.order.len(), s.records.as_mut_ptr(), s.records.len(), s.room.as_ptr(), s.room.len(),
             a.as_mut_ptr(), a.len(), b.as_ptr(), b.len(),
-            sn, frg, ts, payload.as_ptr(), payload.len(), skipped,
+            data.as_ptr(), data.len(), values, skipped,
         )
     }
 }
@@ -277,6 +299,29 @@ fn counted(call: impl FnOnce(&mut usize) -> u32) -> Answer {
         n if length == BEFORE => refused(n),
         _ => Answer::Panicked,
     }
+}
+
+/// How many of the two values an input's answer carries: the bytes consumed, or the refusal's values.
+fn carried(number: u32) -> usize {
+    match number {
+        0 | 1 | 4 => 1,
+        2 | 3 => 2,
+        _ => 0,
+    }
+}
+
+/// An input, its values and the pushes skipped; a value that the answer does not carry must be 0.
+fn input_answer(m: &mut Memory, data: &[u8], out: &mut Outcome) -> Option<String> {
+    const BEFORE: usize = 0x5555_5555;
+    let mut values = [BEFORE; 2];
+    out.skipped = BEFORE as u32;
+    let number = input(m, data, &mut values, &mut out.skipped);
+    let (values, rest) = values.split_at(carried(number));
+    out.answer = match number {
+        0 => Answer::Number(values[0] as u64),
+        n => Answer::Refused { number: n as u8, values: values.iter().map(|x| *x as u64).collect() },
+    };
+    rest.iter().find(|x| **x != 0).map(|x| format!("a value that {} does not carry is {} and not 0", number, x))
 }
 
 /// A block made anew, whose numbers then start at `rcv` and `snd`.
@@ -309,10 +354,12 @@ fn set(m: &mut Memory, call: &Call) -> Answer {
     done(number)
 }
 
-/// Makes a call on the block that the memory holds, and watches what else it writes there.
-pub fn apply(m: &mut Memory, call: &Call, out: &mut Outcome) {
+/// Makes a call on the block that the memory holds, and watches what else it writes there; of the payloads only now and then, unless
+/// all is to be watched, since they are many.
+pub fn apply(m: &mut Memory, call: &Call, all: bool, out: &mut Outcome) {
     *out = Outcome::new();
-    let before = Before::of(m, call);
+    let before = Before::of(m, call, all);
+    let mut odd = None;
     match call {
         Call::Start { conv, stream, rcv, snd, .. } => out.answer = start(m, *conv, *stream, *rcv, *snd),
         Call::Recv(n) => {
@@ -323,11 +370,12 @@ pub fn apply(m: &mut Memory, call: &Call, out: &mut Outcome) {
         Call::Peeksize => out.answer = counted(|length| peeksize(m, length)),
         Call::MoveBuf => out.answer = done(move_buf(m)),
         Call::SetWndsize(snd, rcv) => out.answer = done(set_wndsize(m, *snd, *rcv)),
-        Call::Push(sn, frg, ts, fill) => {
-            let payload: Vec<u8> = fill.bytes().collect();
-            out.answer = done(push(m, *sn, *frg, *ts, &payload, &mut out.skipped));
+        Call::Send(fill) => {
+            let data: Vec<u8> = fill.bytes().collect();
+            out.answer = counted(|queued| send(m, &data, queued));
         }
+        Call::Input(pieces) => odd = input_answer(m, &datagram(pieces), out),
         setter => out.answer = set(m, setter),
     }
-    out.stray = before.stray(m, call, out);
+    out.stray = odd.or_else(|| before.stray(m, call, out));
 }

@@ -16,6 +16,8 @@ pub struct Joined<S: Side> {
     sizes: Sizes,
     /// Whether the port takes part at all.
     port: bool,
+    /// Whether every call is watched for all that it could write, which takes longer.
+    watched: bool,
     /// Whether this sequence goes through the memory after every call.
     through: bool,
     /// Where the state stands: in the copy, in the memory, or in both.
@@ -33,10 +35,10 @@ fn only_reads(call: &Call) -> bool {
 }
 
 impl<S: Side> Joined<S> {
-    pub fn new(copy: S, port: bool) -> Joined<S> {
+    pub fn new(copy: S, port: bool, watched: bool) -> Joined<S> {
         let sizes = Sizes { receive: 1024, send: 1024, acks: 4096 };
         let memory = Memory::new(sizes);
-        Joined { copy, memory, sizes, port, through: false, in_copy: true, in_memory: false, s: State::default() }
+        Joined { copy, memory, sizes, port, watched, through: false, in_copy: true, in_memory: false, s: State::default() }
     }
 
     /// Whether the state that is read has been, or may have been, in the memory, which does not keep every number of every segment.
@@ -110,7 +112,7 @@ impl<S: Side> Side for Joined<S> {
         let stays = only_reads(call);
         if ported {
             self.to_memory();
-            exports::apply(&mut self.memory, call, out);
+            exports::apply(&mut self.memory, call, self.watched, out);
             self.in_copy &= stays;
             return;
         }

@@ -53,44 +53,46 @@ impl Pool {
         Pool { width, order: vec![STALE; slots], records: vec![STALE; slots * width], room: vec![0xEE; slots * ROOM] }
     }
 
-    /// Whether the front of the order holds just these segments, each in a slot of its own.
+    /// Whether the front of the order holds the payloads of just these segments, each in a slot of its own.
     fn holds<'a>(&self, segments: impl Iterator<Item = (&'a Segment, Vec<u32>)>) -> bool {
         let mut used = vec![false; self.order.len()];
-        for (n, (segment, numbers)) in segments.enumerate() {
+        for (n, (segment, _)) in segments.enumerate() {
             let entry = self.order.get(n).map_or(usize::MAX, |x| *x as usize);
             let (slot, len) = (entry % 65536, entry / 65536);
             if slot >= used.len() || used[slot] || len != segment.data.len() {
                 return false;
             }
             used[slot] = true;
-            if self.records[slot * self.width..][..self.width] != numbers[..] || self.room[slot * ROOM..][..len] != segment.data[..] {
+            if self.room[slot * ROOM..][..len] != segment.data[..] {
                 return false;
             }
         }
         true
     }
 
-    /// Puts the segments into slots that are scattered by `turn`, unless they stand there already.
+    /// Puts the segments into slots that are scattered by `turn`; where their payloads stand in slots already, these stay, and the
+    /// numbers alone are written.
     fn lay<'a>(&mut self, turn: usize, segments: impl Iterator<Item = (&'a Segment, Vec<u32>)> + Clone) {
-        if self.holds(segments.clone()) {
-            return;
-        }
+        let stay = self.holds(segments.clone());
         let slots = self.order.len();
         let step = stride(slots);
         for (n, (segment, numbers)) in segments.enumerate() {
-            let slot = (turn + n * step) % slots;
             let len = segment.data.len();
-            self.order[n] = (len * 65536 + slot) as u32;
+            let slot = if stay { self.order[n] as usize % 65536 } else { (turn + n * step) % slots };
             self.records[slot * self.width..][..self.width].copy_from_slice(&numbers);
-            self.room[slot * ROOM..][..len].copy_from_slice(&segment.data);
+            if !stay {
+                self.order[n] = (len * 65536 + slot) as u32;
+                self.room[slot * ROOM..][..len].copy_from_slice(&segment.data);
+            }
         }
     }
 
-    fn read(&self, from: usize, count: usize, into: &mut Vec<Segment>, of: fn(&[u32]) -> Segment) {
+    /// Reads segments, with their payloads or without.
+    fn read(&self, from: usize, count: usize, whole: bool, into: &mut Vec<Segment>, of: fn(&[u32]) -> Segment) {
         into.resize_with(count, Segment::default);
         for (i, segment) in into.iter_mut().enumerate() {
             let entry = self.order[from + i] as usize;
-            let (slot, len) = (entry % 65536, entry / 65536);
+            let (slot, len) = (entry % 65536, if whole { entry / 65536 } else { 0 });
             segment.set(of(&self.records[slot * self.width..][..self.width]), &self.room[slot * ROOM..][..len]);
         }
     }
@@ -191,6 +193,21 @@ impl Memory {
         self.turn = self.turn.wrapping_add(13) % 4096;
         self.receive.lay(self.turn, s.rcv_queue.iter().chain(&s.rcv_buf).map(|x| (x, received(x))));
         self.send.lay(self.turn, s.snd_buf.iter().chain(&s.snd_queue).map(|x| (x, to_send(x))));
+        self.lay_rest(s);
+    }
+
+    /// Lays the numbers of a state whose segments stand in their slots already, as after a flush: which are the same and in the
+    /// same order, and have not changed their payloads.
+    pub fn lay_numbers(&mut self, s: &State) {
+        for (n, segment) in s.snd_buf.iter().chain(&s.snd_queue).enumerate() {
+            let slot = self.send.order[n] as usize % 65536;
+            self.send.records[slot * SEND_WIDTH..][..SEND_WIDTH].copy_from_slice(&to_send(segment));
+        }
+        self.lay_rest(s);
+    }
+
+    /// Lays all but the segments.
+    fn lay_rest(&mut self, s: &State) {
         for (i, (sn, ts)) in s.acklist.iter().enumerate() {
             self.acks[2 * i] = *sn;
             self.acks[2 * i + 1] = *ts;
@@ -243,6 +260,15 @@ impl Memory {
 
     /// The state that the memory holds.
     pub fn read(&self, s: &mut State) {
+        self.read_parts(s, true)
+    }
+
+    /// The same without the payloads, of which each is read as empty.
+    pub fn read_numbers(&self, s: &mut State) {
+        self.read_parts(s, false)
+    }
+
+    fn read_parts(&self, s: &mut State, whole: bool) {
         let w = |name: &str| self.word(name);
         let count = |name: &str| self.word(name) as usize;
         s.conv = w("conv");
@@ -279,11 +305,11 @@ impl Memory {
         s.input_conv = w("input_conv") != 0;
         s.largest = w("largest") as u16;
         let (queued, held) = (count("queued"), count("held"));
-        self.receive.read(0, queued, &mut s.rcv_queue, as_received);
-        self.receive.read(queued, held, &mut s.rcv_buf, as_received);
+        self.receive.read(0, queued, whole, &mut s.rcv_queue, as_received);
+        self.receive.read(queued, held, whole, &mut s.rcv_buf, as_received);
         let (flying, waiting) = (count("flying"), count("waiting_to_fly"));
-        self.send.read(0, flying, &mut s.snd_buf, as_flying);
-        self.send.read(flying, waiting, &mut s.snd_queue, as_waiting);
+        self.send.read(0, flying, whole, &mut s.snd_buf, as_flying);
+        self.send.read(flying, waiting, whole, &mut s.snd_queue, as_waiting);
         s.acklist.clear();
         s.acklist.extend((0..count("acks")).map(|i| (self.acks[2 * i], self.acks[2 * i + 1])));
         s.buf.clear();

@@ -2,7 +2,7 @@
 
 use driver::call::{parse, Call, LEAVES, NAMES};
 use driver::generator::PROFILES;
-use driver::run::{replay, run, Finding, Plan, Replay};
+use driver::run::{reach, replay, run, Finding, Plan, Replay};
 use driver::shrink::shrink;
 use driver::side::Side;
 use driver::{rust_side, Judge};
@@ -28,6 +28,7 @@ struct Wanted {
     progress: bool,
     rows: bool,
     departures: bool,
+    reach: bool,
     /// The other side is the copy of the Rust alone.
     copy: bool,
 }
@@ -40,6 +41,7 @@ fn arguments() -> Wanted {
         progress: false,
         rows: false,
         departures: false,
+        reach: false,
         copy: false,
     };
     let mut words = Vec::new();
@@ -52,6 +54,7 @@ fn arguments() -> Wanted {
             "--copy" => wanted.copy = true,
             "--rows" => wanted.rows = true,
             "--departures" => wanted.departures = true,
+            "--reach" => wanted.reach = true,
             "--progress" => wanted.progress = true,
             w if w.starts_with('-') => usage(&format!("unknown option '{}'", w)),
             _ => words.push(word),
@@ -106,8 +109,9 @@ fn read_script(path: &str) -> Vec<(usize, Call)> {
     calls
 }
 
-fn other(wanted: &Wanted) -> Box<dyn Side> {
-    Box::new(Joined::new(Copy::default(), !wanted.copy))
+/// The other side; a script is short, and so watched in all.
+fn other(wanted: &Wanted, script: bool) -> Box<dyn Side> {
+    Box::new(Joined::new(Copy::default(), !wanted.copy, script))
 }
 
 /// The finding as a script that `--replay` takes.
@@ -130,6 +134,11 @@ fn main() {
     }
     if wanted.departures {
         table(port::departures::run());
+    }
+    if wanted.reach {
+        let (never, lines) = reach(&mut Judge::default(), &wanted.plan);
+        say(&format!("{}\n{} cases, {} never met\n", lines.join("\n"), lines.len(), never));
+        exit((never > 0) as i32)
     }
     let script = wanted.script.as_ref().map(|path| (path, read_script(path)));
     let mut text = String::new();
@@ -165,7 +174,7 @@ fn replayed(wanted: &Wanted, path: &str, script: &[(usize, Call)]) -> (u64, Opti
         Some(Call::Start { .. }) => {}
         _ => usage(&format!("{}: a script begins with 'new'", path)),
     }
-    match replay(&mut Judge::default(), &mut *other(wanted), &calls, &wanted.plan.calls) {
+    match replay(&mut Judge::default(), &mut *other(wanted, true), &calls, &wanted.plan.calls) {
         Replay::Same(count) => (count, None),
         Replay::Differs(count, finding) => (count, Some(finding)),
         Replay::Leaves(i, why) => usage(&format!("{}:{}: leaves the domain of equality: {}", path, script[i].0, why)),
@@ -192,7 +201,7 @@ fn search(wanted: &Wanted) -> (u64, Option<Finding>) {
             eprint!("\r{} of {} calls, {} s ", calls, count, seconds);
         }
     };
-    let report = run(&mut Judge::default(), &mut *other(wanted), &wanted.plan, &mut progress);
+    let report = run(&mut Judge::default(), &mut *other(wanted, false), &wanted.plan, &mut progress);
     if terminal && told > 0 {
         eprintln!();
     }
@@ -205,7 +214,7 @@ fn search(wanted: &Wanted) -> (u64, Option<Finding>) {
                 eprintln!("a difference after {} calls; looking for the shortest sequence that shows it", report.calls);
             }
             let calls = &wanted.plan.calls;
-            let mut shows = |script: &[Call]| match replay(&mut Judge::default(), &mut *other(wanted), script, calls) {
+            let mut shows = |script: &[Call]| match replay(&mut Judge::default(), &mut *other(wanted, true), script, calls) {
                 Replay::Differs(_, finding) => Some(finding),
                 _ => None,
             };

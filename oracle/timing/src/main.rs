@@ -124,9 +124,9 @@ fn table_figures(text: &mut String, figures: Option<Figures>, none: &str) {
 }
 
 fn table(text: &mut String, title: &str, lines: &[Line], none: [&str; 2]) {
-    let _ = writeln!(text, "{:28}{:>12}{:>12}{:>12}{:>12}{:>8}", title, "Rust least", "median", "ours least", "median", "ratio");
+    let _ = writeln!(text, "{:36}{:>12}{:>12}{:>12}{:>12}{:>8}", title, "Rust least", "median", "ours least", "median", "ratio");
     for line in lines {
-        let _ = write!(text, "{:28}", line.name);
+        let _ = write!(text, "{:36}", line.name);
         table_figures(text, line.rust, none[0]);
         table_figures(text, line.ours, none[1]);
         let _ = match line.ratio() {
@@ -139,9 +139,9 @@ fn table(text: &mut String, title: &str, lines: &[Line], none: [&str; 2]) {
 fn as_tables(lines: &[Line], held: &[(&str, usize)], lent: &[Line]) -> String {
     let mut text = String::new();
     table(&mut text, "row, ns", lines, ["", "not yet"]);
-    let _ = writeln!(text, "\n{:28}{:>12}{:>24}", "bytes a connection", "Rust", "ours");
+    let _ = writeln!(text, "\n{:36}{:>12}{:>24}", "bytes a connection", "Rust", "ours");
     for (name, bytes) in held {
-        let _ = write!(text, "{:28}{:12}", name, bytes);
+        let _ = write!(text, "{:36}{:12}", name, bytes);
         let _ = match ours::Ours::fixed_bytes() {
             Some(ours) => writeln!(text, "{:24}{:20.2}", ours, ours as f64 / *bytes as f64),
             None => writeln!(text, "{:>24}", "not yet"),

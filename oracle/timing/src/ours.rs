@@ -1,18 +1,24 @@
 //! The port as a side: a block and the memory lent to it. Each call that comes gets its body here and its name in `has_call`, and
-//! the rows that need no other call then time it.
+//! the rows that need no other call then time it. A flush that a row is prepared by, and that is not timed, is made by the Rust while
+//! the port has none: on a block that takes the state over from the lent memory, and gives it back. Only numbers go there and back,
+//! since a flush leaves payloads, so that those find the caches as the row's own calls left them.
 
 use crate::side::{give_up, Call, Side, Sizes};
+use kcp_judge::{inside, Kcp, KcpResult};
 use port::exports;
 use port::memory::Memory;
+use state::State;
+use std::io;
 
 pub struct Ours {
     memory: Memory,
+    copy: Kcp<io::Sink>,
+    s: State,
 }
 
-/// The memory lent for this window to send, so many receive slots, and as many acks as the window.
-fn lent(window: u16, slots: usize) -> Memory {
-    let most = (window as usize).max(128);
-    Memory::new(driver::call::Sizes { receive: slots, send: most, acks: most })
+/// The memory lent for this window, with so many slots to receive and to send.
+fn lent(window: u16, slots: [usize; 2]) -> Memory {
+    Memory::new(driver::call::Sizes { receive: slots[0], send: slots[1], acks: (window as usize).max(128) })
 }
 
 #[inline]
@@ -26,6 +32,22 @@ fn lacks(call: &str) -> ! {
     give_up(&format!("the port has no {} yet", call))
 }
 
+impl Ours {
+    /// Has the Rust make a flush or an update.
+    fn made(&mut self, call: impl FnOnce(&mut Kcp<io::Sink>) -> KcpResult<()>) {
+        self.memory.read_numbers(&mut self.s);
+        let segments = self.s.snd_buf.len() + self.s.snd_queue.len();
+        inside::lay(&mut self.copy, &self.s);
+        call(&mut self.copy).unwrap_or_else(|e| give_up(&format!("the Rust refused a flush: {}", e)));
+        // the largest window, which the Rust does not keep, stays as it was
+        inside::read(&self.copy, &mut self.s);
+        if self.s.snd_buf.len() + self.s.snd_queue.len() != segments {
+            give_up("a flush has changed how many segments there are to send");
+        }
+        self.memory.lay_numbers(&self.s);
+    }
+}
+
 // No call is inlined into a row, as the Rust's are not.
 impl Side for Ours {
     fn has_call(call: Call) -> bool {
@@ -33,17 +55,18 @@ impl Side for Ours {
             Call::New => "new",
             Call::SetNodelay => "set_nodelay",
             Call::SetWndsize => "set_wndsize",
-            Call::Push => "push",
+            Call::Input => "input",
+            Call::Send => "send",
             Call::Recv => "recv",
-            Call::Input | Call::Send | Call::Flush | Call::Update | Call::Check => return false,
+            Call::Flush | Call::Update | Call::Check => return false,
         };
         exports::has(name)
     }
 
-    fn new(conv: u32, window: u16, slots: usize) -> Ours {
+    fn new(conv: u32, window: u16, slots: [usize; 2]) -> Ours {
         let mut memory = lent(window, slots);
         done("new", exports::new(&mut memory, conv, false));
-        Ours { memory }
+        Ours { memory, copy: Kcp::new(conv, io::sink()), s: State::default() }
     }
 
     fn set_nodelay(&mut self, nodelay: bool, interval: i32, resend: i32, nc: bool) {
@@ -54,19 +77,21 @@ impl Side for Ours {
         done("set_wndsize", exports::set_wndsize(&mut self.memory, sndwnd, rcvwnd))
     }
 
-    fn input(&mut self, _datagram: &[u8]) -> usize {
-        lacks("input")
+    #[inline(never)]
+    fn input(&mut self, datagram: &[u8]) -> usize {
+        let (mut values, mut skipped) = ([0; 2], 0);
+        done("input", exports::input(&mut self.memory, datagram, &mut values, &mut skipped));
+        if skipped != 0 {
+            give_up("the port skipped a push");
+        }
+        values[0]
     }
 
     #[inline(never)]
-    fn push(&mut self, sn: u32, payload: &[u8]) -> usize {
-        let mut skipped = 0;
-        done("push", exports::push(&mut self.memory, sn, 0, 0, payload, &mut skipped));
-        skipped as usize
-    }
-
-    fn send(&mut self, _message: &[u8]) -> usize {
-        lacks("send")
+    fn send(&mut self, message: &[u8]) -> usize {
+        let mut queued = 0;
+        done("send", exports::send(&mut self.memory, message, &mut queued));
+        queued
     }
 
     #[inline(never)]
@@ -77,11 +102,11 @@ impl Side for Ours {
     }
 
     fn flush(&mut self) {
-        lacks("flush")
+        self.made(|block| block.flush())
     }
 
-    fn update(&mut self, _now: u32) {
-        lacks("update")
+    fn update(&mut self, now: u32) {
+        self.made(|block| block.update(now))
     }
 
     fn check(&mut self, _now: u32) -> u32 {
@@ -113,7 +138,7 @@ impl Side for Ours {
 
     fn fixed_bytes() -> Option<usize> {
         if Ours::has_call(Call::New) {
-            Some(lent(512, 1024).bytes())
+            Some(lent(512, [1024, 512]).bytes())
         } else {
             None
         }

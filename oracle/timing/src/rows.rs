@@ -16,23 +16,25 @@ pub fn all<S: Side>() -> Vec<Row<S>> {
     vec![
         loopback("loopback-128", 128),
         loopback("loopback-512", 512),
-        input_push(),
+        input_push("input-push-1400", 0),
+        input_push("input-push-1400-of-1024", 1024),
         input_repeat(),
-        push("push-1400", 256),
-        push("push-1400-of-1024", 1024),
-        push_repeat(),
-        input_50_acks(),
-        input_50_acks_newest_first(),
-        send("send-1k", KIB, 1),
-        send("send-100k", 100 * KIB, 75),
+        input_50_acks("input-50-acks", 0),
+        input_50_acks("input-50-acks-of-1024", 1024),
+        input_50_acks_newest_first("input-50-acks-newest-first", 0),
+        input_50_acks_newest_first("input-50-acks-newest-first-of-1024", 1024),
+        send("send-1k", KIB, 1, 0),
+        send("send-1k-of-1024", KIB, 1, 1024),
+        send("send-100k", 100 * KIB, 75, 0),
+        send("send-100k-of-1024", 100 * KIB, 75, 1024),
         flush_idle(),
         flush_none_due(),
         flush_sending(),
         update_idle(),
         check(),
-        recv("recv-1k", 256),
+        recv("recv-1k", 0),
         recv("recv-1k-of-1024", 1024),
-        recv_queued("recv-1k-128-queued", 256),
+        recv_queued("recv-1k-128-queued", 0),
         recv_queued("recv-1k-128-queued-of-1024", 1024),
         flush_acks(),
     ]
@@ -80,11 +82,12 @@ fn loopback<S: Side>(name: &'static str, window: u16) -> Row<S> {
 }
 
 /// The push that is next, 1,400 bytes in all, with nothing held, readable or to be acked.
-fn input_push<S: Side>() -> Row<S> {
+fn input_push<S: Side>(name: &'static str, slots: usize) -> Row<S> {
     Row {
-        name: "input-push-1400",
-        needs: &[Call::Input, Call::Recv, Call::Flush, Call::Update],
+        name,
+        needs: &[Call::Input, Call::Recv],
         blocks: SOME,
+        slots,
         calls: SOME,
         after: Sizes { readable: 1, acks: 1, ..NONE },
         answer: 1400,
@@ -93,7 +96,7 @@ fn input_push<S: Side>() -> Row<S> {
         settle: |s| {
             for b in &mut s.blocks {
                 b.recv(&mut s.into);
-                b.flush();
+                b.forget_acks();
             }
             raise(&mut s.datagram, 1);
         },
@@ -102,11 +105,11 @@ fn input_push<S: Side>() -> Row<S> {
 }
 
 /// Numbers 1 to 511 held and 0 missing at window 512; number 1 again, which a search from the newest finds last. The acks
-/// of some calls gather before they are flushed.
+/// of some calls gather before they are gone.
 fn input_repeat<S: Side>() -> Row<S> {
     Row {
         name: "input-repeat-511-held",
-        needs: &[Call::Input, Call::Flush, Call::Update],
+        needs: &[Call::Input],
         window: 512,
         calls: OFTEN,
         before: Sizes { held: 511, ..NONE },
@@ -117,63 +120,11 @@ fn input_repeat<S: Side>() -> Row<S> {
                 s.datagram = datagram_of(PUSH, number, s.window, &[7; 1400 - HEADER]);
                 s.blocks[0].input(&s.datagram);
             }
-            s.blocks[0].flush();
+            s.blocks[0].forget_acks();
         },
         run: |s| {
             for _ in 0..OFTEN {
                 s.answer = s.blocks[0].input(&s.datagram);
-            }
-        },
-        settle: |s| s.blocks[0].flush(),
-        ..blank()
-    }
-}
-
-/// The push that is next by itself, with the payload of 1,400 bytes in all, and nothing held, readable or to be acked.
-fn push<S: Side>(name: &'static str, slots: usize) -> Row<S> {
-    Row {
-        name,
-        needs: &[Call::Push, Call::Recv],
-        blocks: SOME,
-        slots,
-        calls: SOME,
-        after: Sizes { readable: 1, acks: 1, ..NONE },
-        start: |s| s.message = vec![7; 1400 - HEADER],
-        run: |s| {
-            for b in &mut s.blocks {
-                s.answer = b.push(opaque(s.number), &s.message);
-            }
-        },
-        settle: |s| {
-            for b in &mut s.blocks {
-                b.recv(&mut s.into);
-                b.forget_acks();
-            }
-            s.number += 1;
-        },
-        ..blank()
-    }
-}
-
-/// As `input_repeat`, by the push alone.
-fn push_repeat<S: Side>() -> Row<S> {
-    Row {
-        name: "push-repeat-511-held",
-        needs: &[Call::Push],
-        window: 512,
-        calls: OFTEN,
-        before: Sizes { held: 511, ..NONE },
-        after: Sizes { held: 511, acks: OFTEN, ..NONE },
-        start: |s| {
-            s.message = vec![7; 1400 - HEADER];
-            for number in (1..512).rev() {
-                s.blocks[0].push(number, &s.message);
-                s.blocks[0].forget_acks();
-            }
-        },
-        run: |s| {
-            for _ in 0..OFTEN {
-                s.answer = s.blocks[0].push(opaque(1), &s.message);
             }
         },
         settle: |s| s.blocks[0].forget_acks(),
@@ -183,11 +134,12 @@ fn push_repeat<S: Side>() -> Row<S> {
 
 /// 50 segments of 1 KiB in flight; one datagram of their 50 acks, oldest first. una takes none of them, so that each is
 /// looked for by its number.
-fn input_50_acks<S: Side>() -> Row<S> {
+fn input_50_acks<S: Side>(name: &'static str, slots: usize) -> Row<S> {
     Row {
-        name: "input-50-acks",
-        needs: &[Call::Send, Call::Flush, Call::Input, Call::Update],
+        name,
+        needs: &[Call::Input, Call::Send],
         blocks: 4,
+        slots,
         calls: 4,
         before: Sizes { in_flight: 50, ..NONE },
         answer: 50 * HEADER,
@@ -201,11 +153,12 @@ fn input_50_acks<S: Side>() -> Row<S> {
 
 /// 128 segments of 1 KiB in flight; one datagram of the acks of the newest 50, newest first, una taking none. The other 78
 /// each gain a fastack.
-fn input_50_acks_newest_first<S: Side>() -> Row<S> {
+fn input_50_acks_newest_first<S: Side>(name: &'static str, slots: usize) -> Row<S> {
     Row {
-        name: "input-50-acks-newest-first",
-        needs: &[Call::Send, Call::Flush, Call::Input, Call::Update],
+        name,
+        needs: &[Call::Input, Call::Send],
         blocks: 2,
+        slots,
         calls: 2,
         before: Sizes { in_flight: 128, ..NONE },
         after: Sizes { in_flight: 78, ..NONE },
@@ -222,12 +175,13 @@ fn input_50_acks_newest_first<S: Side>() -> Row<S> {
 }
 
 /// One message into an empty queue, which it fills with `segments`.
-fn send<S: Side>(name: &'static str, length: usize, segments: usize) -> Row<S> {
+fn send<S: Side>(name: &'static str, length: usize, segments: usize, slots: usize) -> Row<S> {
     let blocks = if segments == 1 { SOME } else { 1 };
     Row {
         name,
-        needs: &[Call::Send, Call::Flush, Call::Input, Call::Update],
+        needs: &[Call::Send, Call::Input],
         blocks,
+        slots,
         calls: blocks,
         after: Sizes { queued: segments, ..NONE },
         answer: length,
@@ -247,14 +201,14 @@ fn send<S: Side>(name: &'static str, length: usize, segments: usize) -> Row<S> {
 
 /// Nothing to send, to resend or to ack.
 fn flush_idle<S: Side>() -> Row<S> {
-    Row { name: "flush-idle", needs: &[Call::Flush, Call::Update], calls: OFTEN, run: flush_often, ..blank() }
+    Row { name: "flush-idle", needs: &[Call::Flush], calls: OFTEN, run: flush_often, ..blank() }
 }
 
 /// 128 segments of 1 KiB in flight, sent by the flush before.
 fn flush_none_due<S: Side>() -> Row<S> {
     Row {
         name: "flush-128-none-due",
-        needs: &[Call::Send, Call::Flush, Call::Update],
+        needs: &[Call::Flush, Call::Send],
         calls: OFTEN,
         before: Sizes { in_flight: 128, ..NONE },
         after: Sizes { in_flight: 128, ..NONE },
@@ -268,7 +222,7 @@ fn flush_none_due<S: Side>() -> Row<S> {
 fn flush_sending<S: Side>() -> Row<S> {
     Row {
         name: "flush-128x1k",
-        needs: &[Call::Send, Call::Flush, Call::Input, Call::Update],
+        needs: &[Call::Flush, Call::Send, Call::Input],
         before: Sizes { queued: 128, ..NONE },
         after: Sizes { in_flight: 128, datagrams: 128, bytes: 128 * (HEADER + KIB), ..NONE },
         prepare: |s| {
@@ -302,7 +256,7 @@ fn update_idle<S: Side>() -> Row<S> {
 fn check<S: Side>() -> Row<S> {
     Row {
         name: "check-128",
-        needs: &[Call::Send, Call::Flush, Call::Check, Call::Update],
+        needs: &[Call::Check, Call::Send],
         calls: OFTEN,
         before: Sizes { in_flight: 128, ..NONE },
         after: Sizes { in_flight: 128, ..NONE },
@@ -321,12 +275,13 @@ fn check<S: Side>() -> Row<S> {
 fn recv<S: Side>(name: &'static str, slots: usize) -> Row<S> {
     Row {
         name,
-        needs: &[Call::Push, Call::Recv],
+        needs: &[Call::Recv, Call::Input],
         blocks: SOME,
         slots,
         calls: SOME,
         before: Sizes { readable: 1, ..NONE },
         answer: KIB,
+        start: push_of_message,
         prepare: push_each,
         run: recv_each,
         settle: expect_message,
@@ -338,7 +293,7 @@ fn recv<S: Side>(name: &'static str, slots: usize) -> Row<S> {
 fn recv_queued<S: Side>(name: &'static str, slots: usize) -> Row<S> {
     Row {
         name,
-        needs: &[Call::Push, Call::Recv],
+        needs: &[Call::Recv, Call::Input],
         blocks: SOME,
         slots,
         calls: SOME,
@@ -346,6 +301,7 @@ fn recv_queued<S: Side>(name: &'static str, slots: usize) -> Row<S> {
         after: Sizes { readable: 127, ..NONE },
         answer: KIB,
         start: |s| {
+            push_of_message(s);
             for _ in 0..127 {
                 push_each(s);
             }
@@ -361,7 +317,7 @@ fn recv_queued<S: Side>(name: &'static str, slots: usize) -> Row<S> {
 fn flush_acks<S: Side>() -> Row<S> {
     Row {
         name: "flush-128-acks",
-        needs: &[Call::Input, Call::Recv, Call::Flush, Call::Update],
+        needs: &[Call::Flush, Call::Input, Call::Recv],
         before: Sizes { acks: 128, ..NONE },
         after: Sizes { datagrams: 3, bytes: 128 * HEADER, ..NONE },
         start: |s| {
@@ -392,13 +348,17 @@ fn recv_each<S: Side>(s: &mut Stand<S>) {
     }
 }
 
+fn push_of_message<S>(s: &mut Stand<S>) {
+    s.datagram = datagram_of(PUSH, 0, s.window, &s.message);
+}
+
 /// Has each block receive the message, whose ack is gone at once.
 fn push_each<S: Side>(s: &mut Stand<S>) {
     for b in &mut s.blocks {
-        b.push(s.number, &s.message);
+        b.input(&s.datagram);
         b.forget_acks();
     }
-    s.number += 1;
+    raise(&mut s.datagram, 1);
 }
 
 fn flush_often<S: Side>(s: &mut Stand<S>) {

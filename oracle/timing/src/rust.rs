@@ -48,7 +48,7 @@ impl Side for Rust {
         true
     }
 
-    fn new(conv: u32, _window: u16, _slots: usize) -> Rust {
+    fn new(conv: u32, _window: u16, _slots: [usize; 2]) -> Rust {
         Rust { block: Kcp::new(conv, Sink::default()) }
     }
 
@@ -63,12 +63,6 @@ impl Side for Rust {
     #[inline(never)]
     fn input(&mut self, datagram: &[u8]) -> usize {
         done("input", self.block.input(datagram))
-    }
-
-    #[inline(never)]
-    fn push(&mut self, sn: u32, payload: &[u8]) -> usize {
-        inside::push_of(&mut self.block, sn, 0, 0, payload);
-        0
     }
 
     #[inline(never)]

@@ -1,4 +1,5 @@
-//! What the rows ask of a side. A call that a side has not yet is never made: `has_call` says which it has.
+//! What the rows ask of a side. A call that a side has not yet is never timed: `has_call` says which it has. Only flush and
+//! update may then be made all the same, by another, where a row is prepared.
 
 /// The calls that rows are prepared and timed by.
 #[derive(Clone, Copy, PartialEq, Eq, Debug)]
@@ -7,8 +8,6 @@ pub enum Call {
     SetNodelay,
     SetWndsize,
     Input,
-    /// The push part of input by itself.
-    Push,
     Send,
     Recv,
     Flush,
@@ -36,15 +35,13 @@ pub struct Sizes {
 pub trait Side: Sized + 'static {
     fn has_call(call: Call) -> bool;
 
-    /// A plain block, with so many receive slots, room for this window to send and for as many acks; all memory lent to it has
-    /// been touched, so that no row times a page's first use.
-    fn new(conv: u32, window: u16, slots: usize) -> Self;
+    /// A plain block, with so many slots to receive and to send, and as many acks as the window; all memory lent to it has been
+    /// touched, so that no row times a page's first use.
+    fn new(conv: u32, window: u16, slots: [usize; 2]) -> Self;
 
     fn set_nodelay(&mut self, nodelay: bool, interval: i32, resend: i32, nc: bool);
     fn set_wndsize(&mut self, sndwnd: u16, rcvwnd: u16);
     fn input(&mut self, datagram: &[u8]) -> usize;
-    /// Answers the pushes skipped.
-    fn push(&mut self, sn: u32, payload: &[u8]) -> usize;
     fn send(&mut self, message: &[u8]) -> usize;
     fn recv(&mut self, into: &mut [u8]) -> usize;
     fn flush(&mut self);

@@ -9,7 +9,7 @@ use std::time::{Duration, Instant};
 pub const INTERVAL: u32 = 10;
 /// A block with nothing to do.
 pub const NONE: Sizes = Sizes { queued: 0, in_flight: 0, held: 0, readable: 0, acks: 0, datagrams: 0, bytes: 0 };
-/// The calls that every row makes its blocks by.
+/// The calls that every row makes its blocks by; a side that lacks one runs no row.
 const MAKING: &[Call] = &[Call::New, Call::SetNodelay, Call::SetWndsize];
 
 /// The blocks of one side that a row calls, and what it calls them with.
@@ -19,8 +19,6 @@ pub struct Stand<S> {
     pub now: u32,
     pub message: Vec<u8>,
     pub into: Vec<u8>,
-    /// The number of the next push of its own.
-    pub number: u32,
     /// The input of a row that times one. Its numbers are raised after each stretch, as a block's are.
     pub datagram: Vec<u8>,
     /// A tell whose una says that everything in flight has arrived.
@@ -32,11 +30,13 @@ pub struct Stand<S> {
 /// What is called, and in which state. One run of the timed calls, with what is done before and after it, is a stretch.
 pub struct Row<S> {
     pub name: &'static str,
-    /// The calls that it needs besides those of `MAKING`. Where update is among them, its blocks have been updated once.
+    /// The calls that must be the side's own besides those of `MAKING`: those that it times, and those that it is prepared by. But a
+    /// flush or an update that prepares it may be made by another.
     pub needs: &'static [Call],
     pub blocks: usize,
     pub window: u16,
-    /// The receive slots lent to a side whose memory is fixed; 0 is for twice the window.
+    /// The slots to receive and as many to send, lent to a side whose memory is fixed; 0 is for twice the window to receive, and
+    /// the window to send.
     pub slots: usize,
     /// How many calls one run makes, over all blocks; of a loopback, how many messages it carries.
     pub calls: usize,
@@ -98,22 +98,20 @@ impl<S: Side> Row<S> {
             now: 0,
             message: (0..KIB).map(|i| i as u8).collect(),
             into: vec![0; 2 * KIB],
-            number: 0,
             datagram: Vec::new(),
             arrived: datagram_of(TELL, 0, self.window, &[]),
             answer: 0,
         }
     }
 
-    /// No congestion window, so that the windows alone say what may be in flight.
+    /// No congestion window, so that the windows alone say what may be in flight; and updated once.
     fn block(&self) -> S {
-        let slots = if self.slots == 0 { 2 * self.window as usize } else { self.slots };
+        let window = self.window as usize;
+        let slots = if self.slots == 0 { [2 * window, window] } else { [self.slots; 2] };
         let mut block = S::new(CONV, self.window, slots);
         block.set_nodelay(true, INTERVAL as i32, 2, true);
         block.set_wndsize(self.window, self.window);
-        if self.needs.contains(&Call::Update) {
-            block.update(0);
-        }
+        block.update(0);
         block
     }
 }
