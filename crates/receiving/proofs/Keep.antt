@@ -9,7 +9,7 @@ use lib.Dec.{ltb}
 use borrow.Author.Tests.{ltb-true, ltb-false, not-true}
 use Rattle.serial.specs.Window.{distance, inWindow}
 use Rattle.receiving.specs.Rules.{Segment, numbers, marks, Receiving, ready, insert, isHeld, moved, moveBuf, skipped, reached, taken, stored, push, message, Answer, refused, gives, recvAnswer, freed, received, recv, tooLarge, widened, setWindow, fresh, Ordered, WellFormed}
-use Rattle.receiving.specs.History.{Event, eventPush, eventRecv, eventMove, eventWindow, leaves, inUse}
+use Rattle.receiving.specs.History.{Event, Small, eventPush, eventRecv, eventMove, eventWindow, leaves, inUse}
 use Rattle.receiving.proofs.Laws.{and-left, and-right, Moves, moves-ready, insert-ordered, insert-length, ordered-wider, ordered-length}
 
 -- a window that passes leaves room for twice itself
@@ -101,12 +101,12 @@ module _ (slots : ℕ) (r : Receiving) (w : WellFormed slots r) where
   well-received (refused n) = w
   well-received (gives n) = well-moved slots (freed (message (marks (r .queue))) r) (well-freed slots r w (message (marks (r .queue))))
 
-  pub well-event : (c : Event) → WellFormed slots (leaves slots c r)
+  pub well-event : (c : Event) → Small c → WellFormed slots (leaves slots c r)
   unfolding leaves recv
-  well-event (eventPush full s small) = well-push full s small
-  well-event (eventRecv room) = well-received (recvAnswer room r)
-  well-event eventMove = well-moved slots r w
-  well-event (eventWindow v) = well-window slots r w v
+  well-event (eventPush full s) small = well-push full s small
+  well-event (eventRecv room) small = well-received (recvAnswer room r)
+  well-event eventMove small = well-moved slots r w
+  well-event (eventWindow v) small = well-window slots r w v
 
   -- no push is turned away for want of a slot
   pub well-room : (full : Bool) (sn : ℕ) → sn < 2 ^ 32 → taken full r sn ≡ true → inUse r < slots

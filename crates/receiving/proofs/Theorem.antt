@@ -9,7 +9,7 @@ use lib.ListN.{length, take, drop, length-append, length-take, length-drop, leng
 use lib.Dec.{ltb}
 use Rattle.serial.specs.Window.{inWindow}
 use Rattle.receiving.specs.Rules.{Segment, numbers, marks, Receiving, ready, insert, isHeld, moved, moveBuf, skipped, reached, taken, stored, push, message, Answer, refused, gives, recvAnswer, given, freed, received, recv, tooLarge, widened, setWindow, fresh, WellFormed}
-use Rattle.receiving.specs.History.{Event, eventPush, eventRecv, eventMove, eventWindow, Taken, placed, first, History, takes, hands, leaves, step, runFrom, begun, inUse, none-segment, distanceAt, Sound}
+use Rattle.receiving.specs.History.{Event, Small, AllSmall, eventPush, eventRecv, eventMove, eventWindow, Taken, placed, first, History, takes, hands, leaves, step, runFrom, begun, inUse, none-segment, distanceAt, Sound}
 use Rattle.receiving.proofs.Laws.{and-left, Numbered, standing, numbered-append, standing-append, numbered-at, standing-at, ordered-length, ordered-high, ordered-rising, Moves, moves-ready, orElse-assoc, first-append, insert-first, insert-length}
 use Rattle.receiving.proofs.Keep.{well-stored, well-freed, well-event, well-room, well-fresh}
 
@@ -110,18 +110,18 @@ module _ (slots : ℕ) (r : Receiving) (pushes : List Taken) (handed : List Segm
       told-moved slots (freed (message (marks (r .queue))) r) pushes (handed ++ take (message (marks (r .queue))) (r .queue))
       (well-freed slots r w (message (marks (r .queue)))) (told-freed slots r pushes handed w t (message (marks (r .queue))))
 
-  told-event : (c : Event) → Told (leaves slots c r) (pushes ++ placed (length (handed ++ r .queue)) (r .next) (takes c r)) (handed ++ hands c r)
+  told-event : (c : Event) → Small c → Told (leaves slots c r) (pushes ++ placed (length (handed ++ r .queue)) (r .next) (takes c r)) (handed ++ hands c r)
   unfolding leaves takes hands placed recv
-  told-event (eventPush full s small) = rw (append-nil handed) (told-push full s small)
-  told-event (eventRecv room) = rw (append-nil pushes) (told-received (recvAnswer room r))
-  told-event eventMove = rw (append-nil pushes, append-nil handed) (told-moved slots r pushes handed w t)
-  told-event (eventWindow v) = rw (append-nil pushes, append-nil handed) (told-window slots r pushes handed w t v)
+  told-event (eventPush full s) small = rw (append-nil handed) (told-push full s small)
+  told-event (eventRecv room) small = rw (append-nil pushes) (told-received (recvAnswer room r))
+  told-event eventMove small = rw (append-nil pushes, append-nil handed) (told-moved slots r pushes handed w t)
+  told-event (eventWindow v) small = rw (append-nil pushes, append-nil handed) (told-window slots r pushes handed w t v)
 
 -- the largest window kept is the largest that was in force
 module _ (slots : ℕ) (r : Receiving) (w : WellFormed slots r) where
   peak-event : (c : Event) → leaves slots c r .largest ≡ max (r .largest) (leaves slots c r .window)
   unfolding leaves moveBuf moved recv received freed push stored setWindow widened
-  peak-event (eventPush full s small) = go (reached full r (s .sn)) (isHeld (s .sn) (numbers (r .held)))
+  peak-event (eventPush full s) = go (reached full r (s .sn)) (isHeld (s .sn) (numbers (r .held)))
     where
       put : Bool → Receiving
       put c = cond c r (record { next = r .next; window = r .window; largest = r .largest; queue = r .queue; held = insert (r .next) s (r .held) })
@@ -157,13 +157,13 @@ module _ (slots : ℕ) where
     pub counted : h .moves ≡ length (h .handed ++ h .now .queue)
     pub peak : h .now .largest ≡ h .peak
 
-  pub inv-step : (h : History) (c : Event) → Inv h → Inv (step slots h c)
+  pub inv-step : (h : History) (c : Event) → Small c → Inv h → Inv (step slots h c)
   unfolding step
-  inv-step h c i =
+  inv-step h c small i =
       let q : ℕ = length (h .handed ++ h .now .queue) in
-      let t = told-event slots (h .now) (h .pushes) (h .handed) (i .well) (i .told) c in
+      let t = told-event slots (h .now) (h .pushes) (h .handed) (i .well) (i .told) c small in
       record {
-        well = well-event slots (h .now) (i .well) c;
+        well = well-event slots (h .now) (i .well) c small;
         told = rw (i .counted) t;
         counted =
             let before = i .told .total in let after = t .total in let k = i .counted in
@@ -187,10 +187,10 @@ module _ (slots : ℕ) where
   pub inv-well : (h : History) → Inv h → WellFormed slots (h .now)
   inv-well h i = i .well
 
-  pub inv-run : (events : List Event) (h : History) → Inv h → Inv (runFrom slots h events)
+  pub inv-run : (events : List Event) → AllSmall events → (h : History) → Inv h → Inv (runFrom slots h events)
   unfolding runFrom
-  inv-run [] h i = i
-  inv-run (c ∷ events) h i = inv-run events (step slots h c) (inv-step h c i)
+  inv-run [] small h i = i
+  inv-run (c ∷ events) small h i = inv-run events (small .1) (step slots h c) (inv-step h c (small .0) i)
 
   pub inv-sound : (h : History) → Inv h → Sound slots h
   unfolding inUse distanceAt layout
@@ -211,5 +211,5 @@ module _ (slots : ℕ) where
       far k b = rw length-append (omega arith)
 
   -- demand 3
-  pub sound : 256 ≤ slots → (events : List Event) → Sound slots (runFrom slots begun events)
-  sound b events = inv-sound (runFrom slots begun events) (inv-run events begun (inv-begun b))
+  pub sound : 256 ≤ slots → (events : List Event) → AllSmall events → Sound slots (runFrom slots begun events)
+  sound b events small = inv-sound (runFrom slots begun events) (inv-run events small begun (inv-begun b))

@@ -3,7 +3,6 @@ use Prim.Native.Nat.{ℕ, _<_}
 use mathlib.Core.Path.{_≡_, refl}
 use mathlib.Core.Bool.{Bool, true, false}
 use mathlib.Core.List.{List, [], _∷_}
-use lib.Dec.{lit<}
 use Rattle.serial.specs.Window.{distance, acknowledged}
 use Rattle.lent.specs.Order.{inserted}
 use Rattle.slots.specs.Entries.{total}
@@ -77,12 +76,12 @@ seg n f b = record { sn = n; frg = f; payload = b ∷ [] }
 events : List Event
 unfolding seg
 events =
-    eventPush false (seg 2 0 12) (lit< tt)
-    ∷ eventPush false (seg 0 1 10) (lit< tt)
-    ∷ eventPush false (seg 0 1 99) (lit< tt)
+    eventPush false (seg 2 0 12)
+    ∷ eventPush false (seg 0 1 10)
+    ∷ eventPush false (seg 0 1 99)
     ∷ eventRecv 100
-    ∷ eventPush true (seg 1 0 98) (lit< tt)
-    ∷ eventPush false (seg 1 0 11) (lit< tt)
+    ∷ eventPush true (seg 1 0 98)
+    ∷ eventPush false (seg 1 0 11)
     ∷ eventRecv 1
     ∷ eventRecv 2
     ∷ []
@@ -99,10 +98,10 @@ history = (refl, refl, refl, refl, refl)
 gap : List Event
 unfolding seg
 gap =
-    eventPush false (seg 1 0 11) (lit< tt)
-    ∷ eventPush false (seg 3 0 13) (lit< tt)
-    ∷ eventPush false (seg 2 0 12) (lit< tt)
-    ∷ eventPush false (seg 2 0 99) (lit< tt)
+    eventPush false (seg 1 0 11)
+    ∷ eventPush false (seg 3 0 13)
+    ∷ eventPush false (seg 2 0 12)
+    ∷ eventPush false (seg 2 0 99)
     ∷ eventWindow 200
     ∷ eventMove
     ∷ []

@@ -12,10 +12,21 @@ use Rattle.receiving.specs.Rules.{Segment, numbers, Receiving, moveBuf, 
 
 -- what a call of the block does to the receive side; a call may do several of these, or none
 pub data Event : Type 0 where
-  eventPush : Bool → (s : Segment) → s .sn < 2 ^ 32 → Event
+  eventPush : Bool → Segment → Event
   eventRecv : ℕ → Event
   eventMove : Event
   eventWindow : ℕ → Event
+
+-- a push's number has 32 bits, as that of any header that was read
+abbrev pub Small : Event → Type 0
+Small (eventPush full s) = s .sn < 2 ^ 32
+Small (eventRecv room) = Unit {0}
+Small eventMove = Unit {0}
+Small (eventWindow w) = Unit {0}
+
+abbrev pub AllSmall : List Event → Type 0
+AllSmall [] = Unit {0}
+AllSmall (c ∷ events) = Small c × AllSmall events
 
 -- a push that was taken, and its place
 pub record Taken : Type 0 where
@@ -38,21 +49,21 @@ pub record History : Type 0 where
 
 -- the push that an event takes
 unfoldable pub takes : Event → Receiving → List Segment
-takes (eventPush full s small) r = cond (taken full r (s .sn)) (s ∷ []) []
+takes (eventPush full s) r = cond (taken full r (s .sn)) (s ∷ []) []
 takes (eventRecv room) r = []
 takes eventMove r = []
 takes (eventWindow w) r = []
 
 -- the segments that it hands out
 unfoldable pub hands : Event → Receiving → List Segment
-hands (eventPush full s small) r = []
+hands (eventPush full s) r = []
 hands (eventRecv room) r = take (given (recvAnswer room r) r) (r .queue)
 hands eventMove r = []
 hands (eventWindow w) r = []
 
 module _ (slots : ℕ) where
   unfoldable pub leaves : Event → Receiving → Receiving
-  leaves (eventPush full s small) r = push full s r
+  leaves (eventPush full s) r = push full s r
   leaves (eventRecv room) r = recv room r
   leaves eventMove r = moveBuf r
   leaves (eventWindow w) r = setWindow slots w r
