@@ -1,0 +1,4 @@
+pub mod Segment
+pub mod Datagram
+pub mod Fits
+pub mod Pushes
