@@ -41,14 +41,14 @@ module _ {now : Now} {s : List ℕ} {whole : List ℕ → Walked} {x : Parts} {r
 
   -- too few bytes are left for a header
   pub going-ends : length s - at < 24
-      → ((room : List ℕ) → record { met = met x rcv acks o k room; answer = Are at } ≡ whole room) × Roomed (x .sender) o k
-  going-ends h = (λ room. ends now s (g .here room) h, g .roomed)
+      → ((room : List ℕ) → record { met = met x rcv acks o k room; answer = Are at } ≡ whole room) × (Roomed (x .sender) o k × (x .skipped ≤ 62))
+  going-ends h = (λ room. ends now s (g .here room) h, (g .roomed, few-skipped))
 
   module _ (h : 24 ≤ length s - at) (y : Parts) (rcv′ : Lists) (acks′ q : List ℕ) (b : Bytes)
       (e : (room : List ℕ) → record { met = met y rcv′ acks′ q k room; answer = b } ≡ segmentAt now s at (met x rcv acks o k room)) where
-    pub going-stops : (why : Refusal) → b ≡ Refused why → Roomed (y .sender) q k
-        → ((room : List ℕ) → record { met = met y rcv′ acks′ q k room; answer = b } ≡ whole room) × Roomed (y .sender) q k
-    going-stops why f r = (λ room. stops now s (g .here room) h (e room) f, r)
+    pub going-stops : (why : Refusal) → b ≡ Refused why → Roomed (y .sender) q k → y .skipped ≤ x .skipped + 1
+        → ((room : List ℕ) → record { met = met y rcv′ acks′ q k room; answer = b } ≡ whole room) × (Roomed (y .sender) q k × (y .skipped ≤ 62))
+    going-stops why f r l = let w = g .skips in let z = in-datagram in (λ room. stops now s (g .here room) h (e room) f, (r, omega arith))
 
     module _ (n : ℕ) (f : b ≡ Are n) where
       pub reaches : (at + 24 ≤ n) × (n ≤ length s)

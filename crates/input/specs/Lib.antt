@@ -1,4 +1,3 @@
 pub mod Segment
 pub mod Datagram
 pub mod Fits
-pub mod Pushes

@@ -364,6 +364,7 @@ fn walk(
         ≡ walkOf (record { current = current; interval = interval }) (now (datagram .entry))
         (record { parts = start; rcv = lists (now («rcv_order» .entry)) (now («rcv_records» .entry)) (now («rcv_room» .entry)); acks = now (acks .entry); snd = lists (now («snd_order» .entry)) (now («snd_records» .entry)) room })) ⌝ }
     ensures { λ r. ⌜ Roomed (r .parts .sender) (now («snd_order» .exit)) (now («snd_records» .entry)) ⌝ }
+    ensures { λ r. ⌜ r .parts .skipped ≤ 62 ⌝ }
 {
     let mut parts = start;
     let mut at = 0;
@@ -497,6 +498,7 @@ pub fn read(
     requires { ⌜ 0 < block .settings .mss ⌝ }
     ensures { λ r. ⌜ ((room : List ℕ) → record { block = r .block; answer = r .answer; skipped = r .skipped; rcv = lists (now («rcv_order» .exit)) (now («rcv_records» .exit)) (now («rcv_room» .exit)); acks = now (acks .exit); snd = lists (now («snd_order» .exit)) (now («snd_records» .exit)) room }
         ≡ readAt block (lists (now («rcv_order» .entry)) (now («rcv_records» .entry)) (now («rcv_room» .entry))) (now (acks .entry)) (lists (now («snd_order» .entry)) (now («snd_records» .entry)) room) (now (datagram .entry))) ⌝ }
+    ensures { λ r. ⌜ r .skipped ≤ 62 ⌝ }
 {
     let clock = block.clock;
     let met = walk(

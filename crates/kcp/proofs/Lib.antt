@@ -1,4 +1,3 @@
 pub mod Outcomes
-pub mod Memory
-pub mod History
+pub mod Inputs
 pub mod Table

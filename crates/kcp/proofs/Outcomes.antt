@@ -1,39 +1,30 @@
 -- What each public call promises, on either side of its tests; and that a contract leaves one outcome only: two that meet it are the same.
 -- Assumes nothing.
-use Prim.Native.Nat.{ℕ, _≤_, _<_}
-use native.Mathlib.Omega.{arith}
+use Prim.Native.Nat.{ℕ}
 use mathlib.Core.Path.{_≡_, refl, sym, ap, _∙_}
-use mathlib.Core.Bool.{Bool, true, false, cond, not, _&&_}
+use mathlib.Core.Bool.{Bool, true, false, cond, not}
 use mathlib.Core.List.{List, [], _∷_}
 use lib.ListN.{length, take}
 use lib.Dec.{ltb}
-use borrow.Author.Tests.{not-true, not-false, le-leb, lt-leb}
+use borrow.Author.Tests.{not-true, not-false}
 use Rattle.serial.specs.Branch.{pick, pick-true, pick-false}
 use Rattle.slots.specs.Entries.{total}
 use Rattle.slots.specs.Pool.{Lists}
 use Rattle.block.specs.declared.Kcp.{Kcp}
-use Rattle.block.specs.declared.acklist.AckList.{AckList}
 use Rattle.block.specs.declared.probe.Probe.{Probe}
 use Rattle.block.specs.declared.receiver.Receiver.{Receiver}
 use Rattle.block.specs.declared.set.Set.{Set}
-use Rattle.block.specs.declared.refusal.Answer.the-variants.{Done, Refused as NotDone}
-use Rattle.block.specs.declared.refusal.Refusal.the-variants.{BadPool, DatagramTooBig}
-use Rattle.block.specs.Parts.{withReceiver, withProbe, withAckList}
+use Rattle.block.specs.declared.refusal.Answer.the-variants.{Done}
+use Rattle.block.specs.declared.refusal.Refusal.the-variants.{BadPool}
+use Rattle.block.specs.Parts.{withReceiver, withProbe}
 use Rattle.block.specs.Refusals.{numberOfAnswer, valuesOfAnswer}
-use Rattle.block.specs.Sizes.{ackSizes, pairs}
-use Rattle.block.specs.WellFormed.{ackNumbers}
-use Rattle.block.proofs.Exact.{ack-sizes}
-use Rattle.block.proofs.Together.{goes, stops}
-use Rattle.receiving.specs.Rules.{Segment, Answer, refused, gives, message, expects, peeked, unlessLonger, tooLarge}
-use Rattle.receiving.proofs.Laws.{and-left}
+use Rattle.receiving.specs.Rules.{Answer, refused, gives, message, expects, peeked, unlessLonger, tooLarge}
 use Rattle.receive.specs.declared.Length.{Length}
 use Rattle.receive.specs.declared.Length.the-variants.{Refused}
 use Rattle.receive.specs.declared.Handed.{Handed}
-use Rattle.receive.specs.declared.Pushed.{Pushed as Taken}
-use Rattle.receive.specs.Memory.{Side, moveBufAt, peekAt, answerAt, recvAt, probeAt, refusalOf, lengthAnswer, numberOfLength, windowsAt, queueMarks, queueSizes, fullAt, pushAt, acksAt, skipsAt, HandedAs, PushedAs}
+use Rattle.receive.specs.Memory.{Side, moveBufAt, peekAt, answerAt, recvAt, probeAt, refusalOf, lengthAnswer, numberOfLength, windowsAt, queueMarks, queueSizes, HandedAs}
 use Rattle.receive.specs.Fits.{receiveFits}
-use Rattle.kcp.specs.declared.Pushed.{Pushed}
-use Rattle.kcp.specs.Calls.{badPool, moveBufOf, Promised, numberIn, peeksizeOf, Peeked, handedOver, RecvOut, recvOf, Receives, setWndsizeOf, wndsizeNumber, ackFits, pushFits, PushOut, pushed, pushOf}
+use Rattle.kcp.specs.Calls.{badPool, moveBufOf, Promised, numberIn, peeksizeOf, Peeked, handedOver, RecvOut, recvOf, Receives, setWndsizeOf, wndsizeNumber}
 
 -- ---- peeksize and recv refuse by 5, 6 and 7 alone, and so by the number that the rules give
 
@@ -136,63 +127,6 @@ module _ (k : Kcp) (p : Lists) where
         values = ap (λ (s : Set). valuesOfAnswer (s .answer)) e ∙ window-values _ refl;
       }
 
-  -- ---- a push
-  module _ (acks waiting : List ℕ) (s : Segment) (ts : ℕ) where
-    abbrev leaving : Pushed → Lists → List ℕ → PushOut
-    leaving r q l = record { block = r .block; answer = r .answer; skipped = r .skipped; pool = q; acks = l }
-
-    bad-push : (r : Pushed) → r ≡ record { block = k; answer = NotDone BadPool; skipped = 0 } → pushFits k p acks waiting ≡ false → leaving r p acks ≡ pushOf k p acks waiting s ts
-    unfolding pushOf
-    bad-push r e h = ap (λ (x : Pushed). leaving x p acks) e ∙ sym (pick-false _ _ h)
-
-    -- the pool is not well formed
-    pub push-bad-pool : {t : Bool} → t ≡ receiveFits k p → not t ≡ true → (r : Pushed) → r ≡ record { block = k; answer = NotDone BadPool; skipped = 0 }
-        → leaving r p acks ≡ pushOf k p acks waiting s ts
-    push-bad-pool {t} tested fails r e = bad-push r e (sym (stops _ (sym tested ∙ not-true t fails)))
-
-    module _ {t : Bool} (tested : t ≡ receiveFits k p) (passes : not t ≡ false)
-        {u : Bool} (acks-tested : u ≡ (ackSizes (length acks) (length waiting) && ackNumbers (pairs (length acks)) (k .acklist))) where
-      both-tested : pushFits k p acks waiting ≡ u
-      unfolding ackFits
-      both-tested = sym (goes _ (sym tested ∙ not-false t passes)) ∙ sym acks-tested
-
-      -- the ack memory is not
-      pub push-bad-acks : not u ≡ true → (r : Pushed) → r ≡ record { block = k; answer = NotDone BadPool; skipped = 0 } → leaving r p acks ≡ pushOf k p acks waiting s ts
-      push-bad-acks fails r e = bad-push r e (both-tested ∙ not-true u fails)
-
-      module _ (acks-pass : not u ≡ false) where
-        push-fits : pushFits k p acks waiting ≡ true
-        push-fits = both-tested ∙ not-false u acks-pass
-
-        pub few-acks : length acks ≤ 8192
-        few-acks =
-            let z = ack-sizes (length acks) (length waiting) .holds (and-left (ackSizes (length acks) (length waiting)) _ (sym acks-tested ∙ not-false u acks-pass)) in
-            let a = z .listed .high in
-            let b = z .paired in
-            omega arith
-
-        pub push-too-big : 1476 < length (s .payload) → (r : Pushed) → r ≡ record { block = k; answer = NotDone DatagramTooBig; skipped = 0 }
-            → leaving r p acks ≡ pushOf k p acks waiting s ts
-        unfolding pushOf
-        push-too-big l r e = ap (λ (x : Pushed). leaving x p acks) e ∙ sym (pick-true _ _ push-fits ∙ pick-false _ _ (lt-leb (length (s .payload)) 1476 l))
-
-        -- taken in, with the block that has the receiver and then the ack list
-        pub push-done : length (s .payload) ≤ 1476 → (o : Taken) (q : Lists) (acks′ : List ℕ) → PushedAs (k .receiver) (k .acklist) p acks s ts o q acks′
-            → (b c : Kcp) → b ≡ withReceiver k (o .receiver) → c ≡ withAckList b (o .acklist)
-            → leaving (record { block = c; answer = Done; skipped = o .skipped }) q acks′ ≡ pushOf k p acks waiting s ts
-        unfolding pushOf pushed
-        push-done l o q acks′ w b c f g =
-            let out : Side → AckList → ℕ → List ℕ → PushOut = λ x a n i. record { block = withAckList (withReceiver k (x .receiver)) a; answer = Done; skipped = n; pool = x .pool; acks = i } in
-            let full = fullAt (k .acklist .acks) acks in
-            let x = pushAt full (k .receiver) p s in
-            let a : AckList = record { acks = acksAt full (k .receiver) (s .sn) (k .acklist .acks); waiting = k .acklist .waiting } in
-            rw (g, f)
-            (ap (λ (y : Side). out y (o .acklist) (o .skipped) acks′) (w .receives)
-            ∙ ap (λ (y : AckList). out x y (o .skipped) acks′) (w .counts)
-            ∙ ap (λ (n : ℕ). out x a n acks′) (w .skips)
-            ∙ ap (λ (i : List ℕ). out x a (skipsAt full (k .receiver) (s .sn)) i) (w .lists)
-            ∙ sym (pick-true _ _ push-fits ∙ pick-true _ _ (le-leb (length (s .payload)) 1476 l)))
-
 -- ---- two outcomes that meet a contract are the same
 
 -- `move_buf` and `set_wndsize`
@@ -206,8 +140,3 @@ peeked-once p q = p .is ∙ sym (q .is)
 -- recv: with the pool and the buffer that it leaves
 pub received-once : {k : Kcp} {p : Lists} {buf : List ℕ} {r s : RecvOut} → Receives k p buf r → Receives k p buf s → r ≡ s
 received-once p q = p .is ∙ sym (q .is)
-
--- a push: with the pool and the ack list that it leaves
-pub pushed-once : (k : Kcp) (p : Lists) (acks waiting : List ℕ) (s : Segment) (ts : ℕ) {x y : PushOut}
-    → x ≡ pushOf k p acks waiting s ts → y ≡ pushOf k p acks waiting s ts → x ≡ y
-pushed-once k p acks waiting s ts e f = e ∙ sym f

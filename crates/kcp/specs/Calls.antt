@@ -5,23 +5,21 @@ use mathlib.Core.Path.{_≡_}
 use mathlib.Core.Bool.{Bool, _&&_}
 use mathlib.Core.List.{List, []}
 use lib.ListN.{length}
-use lib.Dec.{leb}
 use Rattle.serial.specs.Branch.{pick}
 use Rattle.slots.specs.Pool.{Lists}
 use Rattle.block.specs.declared.Kcp.{Kcp}
 use Rattle.block.specs.declared.set.Set.{Set}
-use Rattle.block.specs.declared.refusal.Answer.{Answer}
 use Rattle.block.specs.declared.refusal.Answer.the-variants.{Done, Refused as NotDone}
-use Rattle.block.specs.declared.refusal.Refusal.the-variants.{BadPool, DatagramTooBig}
+use Rattle.block.specs.declared.refusal.Refusal.the-variants.{BadPool}
 use Rattle.block.specs.Refusals.{numberOfAnswer, valuesOfAnswer}
-use Rattle.block.specs.Parts.{withReceiver, withProbe, withAckList}
+use Rattle.block.specs.Parts.{withReceiver, withProbe}
 use Rattle.block.specs.Sizes.{ackSizes, pairs}
 use Rattle.block.specs.WellFormed.{ackNumbers}
-use Rattle.receiving.specs.Rules.{Segment, tooLarge}
+use Rattle.receiving.specs.Rules.{tooLarge}
 use Rattle.receiving.specs.Rules as rules
 use Rattle.receive.specs.declared.Length.{Length}
 use Rattle.receive.specs.declared.Length.the-variants.{Refused}
-use Rattle.receive.specs.Memory.{Side, moveBufAt, peekAt, answerAt, recvAt, bytesAt, probeAt, lengthAnswer, numberOfLength, windowsAt, fullAt, pushAt, acksAt, listAt, skipsAt}
+use Rattle.receive.specs.Memory.{Side, moveBufAt, peekAt, answerAt, recvAt, bytesAt, probeAt, lengthAnswer, numberOfLength, windowsAt}
 use Rattle.receive.specs.Fits.{receiveFits}
 
 -- refused by 15, and all as it was
@@ -90,42 +88,6 @@ setWndsizeOf k p sndwnd rcvwnd = pick (receiveFits k p) (windowsAt (length (p .o
 unfoldable pub wndsizeNumber : Kcp → Lists → ℕ → ℕ
 wndsizeNumber k p rcvwnd = pick (receiveFits k p) (pick (tooLarge (length (p .order)) rcvwnd) 14 0) 15
 
--- ---- a push alone, as input does it for each push of a datagram
-
--- what the ack memory adds to the test: its sizes, and "at most A acks"
+-- ---- what the ack memory adds to the test for 15: its sizes, and "at most A acks"
 unfoldable pub ackFits : Kcp → List ℕ → List ℕ → Bool
 ackFits k acks waiting = ackSizes (length acks) (length waiting) && ackNumbers (pairs (length acks)) (k .acklist)
-
-abbrev pub pushFits : Kcp → Lists → List ℕ → List ℕ → Bool
-pushFits k p acks waiting = receiveFits k p && ackFits k acks waiting
-
--- the block, the answer, the skipped pushes, the pool and the ack list after a push
-pub record PushOut : Type 0 where
-  pub block : Kcp
-  pub answer : Answer
-  pub skipped : ℕ
-  pub pool : Lists
-  pub acks : List ℕ
-
--- it and its ack taken into the block
-unfoldable pub pushed : Kcp → Lists → List ℕ → Segment → ℕ → PushOut
-pushed k p acks s ts =
-    let full = fullAt (k .acklist .acks) acks in
-    record {
-      block = withAckList (withReceiver k (pushAt full (k .receiver) p s .receiver)) (record { acks = acksAt full (k .receiver) (s .sn) (k .acklist .acks); waiting = k .acklist .waiting });
-      answer = Done;
-      skipped = skipsAt full (k .receiver) (s .sn);
-      pool = pushAt full (k .receiver) p s .pool;
-      acks = listAt full (k .receiver) (s .sn) ts (k .acklist .acks) acks;
-    }
-
--- all as it was
-abbrev pub unpushed : Kcp → Lists → List ℕ → Answer → PushOut
-unpushed k p acks answer = record { block = k; answer = answer; skipped = 0; pool = p; acks = acks }
-
--- a payload that no slot holds would be of a datagram over 1,500 bytes: 11
-unfoldable pub pushOf : Kcp → Lists → List ℕ → List ℕ → Segment → ℕ → PushOut
-pushOf k p acks waiting s ts =
-    pick (pushFits k p acks waiting)
-    (pick (leb (length (s .payload)) 1476) (pushed k p acks s ts) (unpushed k p acks (NotDone DatagramTooBig)))
-    (unpushed k p acks (NotDone BadPool))

@@ -4,31 +4,27 @@ ghost use mathlib.Core.Path.{_≡_};
 ghost use mathlib.Core.Bool.{_&&_};
 ghost use Rattle.slots.specs.Pool.{lists};
 ghost use Rattle.serial.specs.Branch.{pick};
-ghost use Rattle.block.specs.declared.refusal.Answer.the-variants.{Refused as NotDone};
+ghost use Rattle.block.specs.declared.refusal.Bytes.the-variants.{Refused as Unread};
 ghost use Rattle.block.specs.Sizes.{ackSizes, pairs};
 ghost use Rattle.block.specs.WellFormed.{ackNumbers};
 ghost use Rattle.receive.specs.declared.Length.the-variants.{Refused};
 ghost use Rattle.receive.specs.Fits.{receiveFits};
-ghost use Rattle.kcp.specs.Calls.{badPool, Promised, moveBufOf, Peeked, Receives, setWndsizeOf, wndsizeNumber, pushOf};
+ghost use Rattle.kcp.specs.Calls.{badPool, Promised, moveBufOf, Peeked, Receives, setWndsizeOf, wndsizeNumber};
+ghost use Rattle.kcp.specs.Input.{Inputs};
 use block::Kcp;
 use block::acklist::AckList;
 use block::refusal::Answer;
+use block::refusal::Bytes;
 use block::refusal::Refusal;
 use block::set::Set;
 use block::sizes::ack_sizes;
+use input::Outcome;
 use receive::Length;
 
 // The block after recv, and its answer.
 pub struct Received {
     pub block: Kcp,
     pub answer: Length,
-}
-
-// The block after a push, whether it was refused, and how many pushes were skipped, 0 or 1.
-pub struct Pushed {
-    pub block: Kcp,
-    pub answer: Answer,
-    pub skipped: u32,
 }
 
 // Refused by 15: all as it was.
@@ -115,17 +111,6 @@ pub fn set_wndsize(
     receive::set_wndsize(block, order.len(), sndwnd, rcvwnd)
 }
 
-// A push that was refused: all as it was, and none skipped.
-fn unpushed(block: Kcp, why: Refusal) -> Pushed
-    ensures { λ r. ⌜ r ≡ record { block = block; answer = NotDone why; skipped = 0 } ⌝ }
-{
-    Pushed {
-        block: block,
-        answer: Answer::Refused { why: why },
-        skipped: 0,
-    }
-}
-
 // Whether an ack memory of these lengths is within the limits and holds the acks that the block counts.
 fn ack_fits(acklist: AckList, acks: usize, waiting: usize) -> bool
     ensures { λ r. ⌜ r ≡ (ackSizes acks waiting && ackNumbers (pairs acks) acklist) ⌝ }
@@ -136,48 +121,65 @@ fn ack_fits(acklist: AckList, acks: usize, waiting: usize) -> bool
     false
 }
 
-// A push alone, as input does it for each push of a datagram. Refused by 15, or by 11 where no slot would hold the payload.
-pub fn push(
+// An input that was refused before any segment was read: all as it was, and none skipped.
+fn unread(block: Kcp, why: Refusal) -> Outcome
+    ensures { λ r. ⌜ r ≡ record { block = block; answer = Unread why; skipped = 0 } ⌝ }
+{
+    Outcome {
+        block: block,
+        answer: Bytes::Refused { why: why },
+        skipped: 0,
+    }
+}
+
+// One datagram, with both pools and the ack memory: the bytes consumed, and how many pushes were skipped. Refused by 15, 11 or 1, which leave all,
+// or by 2, 3 or 4, which leave what the segments before the refused one did, and after 3 and 4 the conv adopted.
+pub fn input(
     block: Kcp,
-    order: &mut [u32],
-    records: &mut [u32],
-    room: &mut [u8],
+    rcv_order: &mut [u32],
+    rcv_records: &mut [u32],
+    rcv_room: &mut [u8],
+    snd_order: &mut [u32],
+    snd_records: &mut [u32],
+    snd_room: &[u8],
     acks: &mut [u32],
     waiting: &[u8],
-    sn: u32,
-    frg: u8,
-    ts: u32,
-    payload: &[u8],
-) -> Pushed
-    ensures { λ r. ⌜ record { block = r .block; answer = r .answer; skipped = r .skipped; pool = lists (now (order .exit)) (now (records .exit)) (now (room .exit)); acks = now (acks .exit) }
-        ≡ pushOf block (lists (now (order .entry)) (now (records .entry)) (now (room .entry))) (now (acks .entry)) (now (waiting .entry)) (record { sn = sn; frg = frg; payload = now (payload .entry) }) ts ⌝ }
+    datagram: &[u8],
+) -> Outcome
+    ensures { λ r. ⌜ Inputs block (lists (now («rcv_order» .entry)) (now («rcv_records» .entry)) (now («rcv_room» .entry))) (now (acks .entry)) (now (waiting .entry))
+        (lists (now («snd_order» .entry)) (now («snd_records» .entry)) (now («snd_room» .entry))) (now (datagram .entry))
+        (record { block = r .block; answer = r .answer; skipped = r .skipped; rcv = lists (now («rcv_order» .exit)) (now («rcv_records» .exit)) (now («rcv_room» .exit)); acks = now (acks .exit); snd = lists (now («snd_order» .exit)) (now («snd_records» .exit)) (now («snd_room» .entry)) }) ⌝ }
 {
     let mut marks = [0u8; 1024];
-    if !receive::well_formed(block, order, records, room, &mut marks) {
-        return unpushed(block, Refusal::BadPool);
+    if !receive::well_formed(block, rcv_order, rcv_records, rcv_room, &mut marks) {
+        return unread(block, Refusal::BadPool);
+    }
+    if !transmit::fits(block, snd_order, snd_records, snd_room) {
+        return unread(block, Refusal::BadPool);
     }
     if !ack_fits(block.acklist, acks.len(), waiting.len()) {
-        return unpushed(block, Refusal::BadPool);
+        return unread(block, Refusal::BadPool);
     }
-    if payload.len() > Kcp::ROOM {
-        return unpushed(block, Refusal::DatagramTooBig);
+    if datagram.len() > Kcp::MTU_MOST {
+        return unread(block, Refusal::DatagramTooBig);
     }
-    let out = receive::push(
-        block.receiver,
-        block.acklist,
-        order,
-        records,
-        room,
+    if datagram.len() < Kcp::OVERHEAD as usize {
+        return unread(
+            block,
+            Refusal::InvalidSegmentSize {
+                size: datagram.len(),
+            },
+        );
+    }
+    input::read(
+        block,
+        rcv_order,
+        rcv_records,
+        rcv_room,
         acks,
         &mut marks,
-        sn,
-        frg,
-        ts,
-        payload,
-    );
-    Pushed {
-        block: block.with_receiver(out.receiver).with_acklist(out.acklist),
-        answer: Answer::Done,
-        skipped: out.skipped,
-    }
+        snd_order,
+        snd_records,
+        datagram,
+    )
 }

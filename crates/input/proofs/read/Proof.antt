@@ -56,10 +56,10 @@ same-length-7 : tie.Need-same-length-7
 same-length-7 c = search needs
 
 returns : tie.Need-returns
-returns c = let a = c .before .before .before .before .before .before .before .before .before .before .before .before .before .before .before .before .before .before .before .before .before .before .before .before .before .before .before .before .before .before .before .before .before .before .args in read-stops (a .block) _ (c .before .before .before .before .before .before .before .before .before .before .before .before .before .before .before .before .before .before .before .before .before .before .before .before .parts-of .ensures) (a .datagram .now) (lists (a .rcv-order .now) (a .rcv-records .now) (a .rcv-room .now)) (a .acks .now) (a .snd-order .now) (a .snd-records .now) _ (lists _ _ _) _ _ _ (c .before .before .before .before .before .before .before .before .before .before .before .before .before .before .before .before .walk .ensures .0) _ (c .before .before .joined .ensures) _ (c .enum-told .given .1)
+returns c = let a = c .before .before .before .before .before .before .before .before .before .before .before .before .before .before .before .before .before .before .before .before .before .before .before .before .before .before .before .before .before .before .before .before .before .before .args in let w = c .before .before .before .before .before .before .before .before .before .before .before .before .before .before .before .before .walk .ensures in (read-stops (a .block) _ (c .before .before .before .before .before .before .before .before .before .before .before .before .before .before .before .before .before .before .before .before .before .before .before .before .parts-of .ensures) (a .datagram .now) (lists (a .rcv-order .now) (a .rcv-records .now) (a .rcv-room .now)) (a .acks .now) (a .snd-order .now) (a .snd-records .now) _ (lists _ _ _) _ _ _ (w .0) _ (c .before .before .joined .ensures) _ (c .enum-told .given .1), w .1 .1)
 
 parse-fastack-requires : tie.Need-parse-fastack-requires
-parse-fastack-requires c κs = first-lies _ _ _ (c .before .before .before .before .before .before .before .before .before .before .before .before .before .before .before .before .before .before .before .before .walk .ensures .1)
+parse-fastack-requires c κs = first-lies _ _ _ (c .before .before .before .before .before .before .before .before .before .before .before .before .before .before .before .before .before .before .before .before .walk .ensures .1 .0)
 
 grown-by-requires : tie.Need-grown-by-requires
 grown-by-requires c κs = c .before .before .before .before .before .before .before .before .before .before .before .before .before .before .before .before .before .before .before .before .before .before .before .before .before .before .before .before .before .before .before .before .before .before .before .before .before .before .before .before .before .before .before .pre .1 .1 .1 .1 .1
@@ -89,7 +89,7 @@ same-length-14 : tie.Need-same-length-14
 same-length-14 c = search needs
 
 returns-2 : tie.Need-returns-2
-returns-2 c = let a = c .before .before .before .before .before .before .before .before .before .before .before .before .before .before .before .before .before .before .before .before .before .before .before .before .before .before .before .before .before .before .before .before .before .before .before .before .before .before .before .before .before .before .before .before .before .args in read-goes (a .block) _ (c .before .before .before .before .before .before .before .before .before .before .before .before .before .before .before .before .before .before .before .before .before .before .before .before .before .before .before .before .before .before .before .before .before .before .before .parts-of .ensures) (a .datagram .now) (lists (a .rcv-order .now) (a .rcv-records .now) (a .rcv-room .now)) (a .acks .now) (a .snd-order .now) (a .snd-records .now) _ (lists _ _ _) _ _ _ (c .before .before .before .before .before .before .before .before .before .before .before .before .before .before .before .before .before .before .before .before .before .before .before .before .before .before .before .walk .ensures .0) _ (c .before .before .before .before .before .before .before .before .before .before .before .before .before .joined .ensures) _ (c .before .before .before .before .before .before .before .before .before .before .before .answer .given .1) _ (c .before .before .before .before .before .before .parse-fastack .ensures) _ (c .before .grown-by .ensures) _ (c .with-congestion .ensures)
+returns-2 c = let a = c .before .before .before .before .before .before .before .before .before .before .before .before .before .before .before .before .before .before .before .before .before .before .before .before .before .before .before .before .before .before .before .before .before .before .before .before .before .before .before .before .before .before .before .before .before .args in let w = c .before .before .before .before .before .before .before .before .before .before .before .before .before .before .before .before .before .before .before .before .before .before .before .before .before .before .before .walk .ensures in (read-goes (a .block) _ (c .before .before .before .before .before .before .before .before .before .before .before .before .before .before .before .before .before .before .before .before .before .before .before .before .before .before .before .before .before .before .before .before .before .before .before .parts-of .ensures) (a .datagram .now) (lists (a .rcv-order .now) (a .rcv-records .now) (a .rcv-room .now)) (a .acks .now) (a .snd-order .now) (a .snd-records .now) _ (lists _ _ _) _ _ _ (w .0) _ (c .before .before .before .before .before .before .before .before .before .before .before .before .before .joined .ensures) _ (c .before .before .before .before .before .before .before .before .before .before .before .answer .given .1) _ (c .before .before .before .before .before .before .parse-fastack .ensures) _ (c .before .grown-by .ensures) _ (c .with-congestion .ensures), w .1 .1)
 
 pub read-spec : {M : Type 1} → statement M
 read-spec =
