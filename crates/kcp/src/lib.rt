@@ -18,6 +18,8 @@ use block::set::Set;
 use block::sizes::ack_sizes;
 use receive::Length;
 
+pub mod sender; // send
+
 // The block after recv, and its answer.
 pub struct Received {
     pub block: Kcp,
