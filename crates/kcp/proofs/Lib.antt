@@ -1,3 +1,4 @@
 pub mod Outcomes
+pub mod Sends
 pub mod Inputs
 pub mod Table

@@ -5,12 +5,15 @@ use mathlib.Core.Path.{_≡_, refl}
 use mathlib.Core.Bool.{Bool, true, false}
 use mathlib.Core.List.{List, [], _∷_, map}
 use lib.IntN.{ℤ, pos, negsuc}
+use lib.ListN.{length, replicate}
 use Rattle.serial.specs.Branch.{pick}
 use Rattle.serial.specs.Wrap.{signed32, timediff}
 use Rattle.serial.specs.Window.{distance, acknowledged}
 use Rattle.estimator.specs.declared.Estimator.{Estimator}
 use Rattle.estimator.specs.Estimate.{fresh, timed, measured}
 use Rattle.receiving.specs.Rules.{Receiving, skipped, isHeld, reached, taken}
+use Rattle.sending.specs.Rules.{Segment}
+use Rattle.sending.specs.Send.{fills, joins, pieces, needed, sendNumber, cut, lastOf, filled, queued, send}
 
 pub data Value : Type 0 where
   signed : ℤ → Value
@@ -40,6 +43,20 @@ after (rtt ∷ earlier) = measured (after earlier) rtt 100
 times : Estimator → Value
 times e = numbers (e .srtt ∷ e .rttval ∷ e .rto ∷ [])
 
+-- how many segments a send of n bytes needs with mss 1376 where nothing is queued, and the number of its refusal with 128 free slots
+needs : ℕ → Value
+needs n = let new = needed 1376 false 0 0 n in numbers (new ∷ sendNumber new 128 ∷ [])
+
+-- what it queues, where nothing was
+queues : Bool → ℕ → List Segment
+queues stream n = send 1376 stream (replicate n 0) (record { una = 0; next = 0; flying = []; waiting = [] }) 128 .waiting
+
+frgs : List Segment → Value
+frgs l = numbers (map (λ (s : Segment). s .frg) l)
+
+sizes : List Segment → Value
+sizes l = numbers (map (λ (s : Segment). length (s .payload)) l)
+
 pub table : List Row
 table =
     -- "timediff(0, 4294967295) = 1; timediff(2147483648, 0) = −2147483648"
@@ -57,8 +74,16 @@ table =
     ∷ row (times (after (90 ∷ 50 ∷ []))) (numbers (55 ∷ 28 ∷ 167 ∷ []))
     ∷ row (numbers (after (0 ∷ []) .rto ∷ after (0 ∷ []) .srtt ∷ [])) (numbers (100 ∷ 0 ∷ []))
     ∷ row (numbers (after (10 ∷ []) .rto ∷ [])) (numbers (110 ∷ []))
+    -- "mss 1376: send of 1376 gives one segment, 1377 two (frg 1, 0); 174,752 gives 127; 174,753 refused by 8"
+    ∷ row (sizes (queues false 1376)) (numbers (1376 ∷ []))
+    ∷ row (frgs (queues false 1377)) (numbers (1 ∷ 0 ∷ []))
+    ∷ row (needs 174752) (numbers (127 ∷ 0 ∷ []))
+    ∷ row (needs 174753) (numbers (128 ∷ 8 ∷ []))
+    -- "Empty send: plain queues one empty segment, stream queues none"
+    ∷ row (sizes (queues false 0)) (numbers (0 ∷ []))
+    ∷ row (sizes (queues true 0)) (numbers [])
     ∷ []
 
 pub worked : map (λ (r : Row). r .gives) table ≡ map (λ (r : Row). r .says) table
-unfolding row at push taken reached skipped isHeld after times table pick distance signed32 timed measured
+unfolding row at push taken reached skipped isHeld after times needs queues frgs sizes table pick distance signed32 timed measured send sendNumber queued filled needed joins fills pieces cut lastOf
 worked = refl

@@ -21,6 +21,8 @@ use block::sizes::ack_sizes;
 use input::Outcome;
 use receive::Length;
 
+pub mod sender; // send
+
 // The block after recv, and its answer.
 pub struct Received {
     pub block: Kcp,

@@ -8,7 +8,9 @@ use lib.Dec.{eqb}
 use lib.ListN.{length, drop, drop-of-length-le}
 use lib.Seq.{drop-cons}
 use Rattle.block.specs.declared.Kcp.{Kcp}
-use Rattle.words.specs.Words.{bit, firstWords, lastWords, wordsOf, at, blockOf, isBlock, withReceived, setReceived}
+use Rattle.block.specs.declared.sender.Sender.{Sender}
+use Rattle.block.specs.Parts.{withSender}
+use Rattle.words.specs.Words.{bit, firstWords, lastWords, wordsOf, at, blockOf, isBlock, withReceived, setReceived, setSender}
 use Rattle.words.proofs.Tests.{Shorts, Flags, exactly-block}
 
 -- ---- a block's words
@@ -85,3 +87,13 @@ set-words k x = refl
 pub received-words : (l : List ℕ) (x : Kcp) → isBlock l ≡ true → ((i : ℕ) → at l i < 4294967296) → x ≡ withReceived (blockOf l) x → setReceived x l ≡ wordsOf x
 received-words l x h w e =
     ap (setReceived x) (sym (words-back l h w)) ∙ set-words (blockOf l) x ∙ sym (ap wordsOf e)
+
+-- ---- the words of the sending side's numbers
+
+set-sender : (k : Kcp) (s : Sender) → setSender s (wordsOf k) ≡ wordsOf (withSender k s)
+unfolding setSender wordsOf firstWords lastWords
+set-sender k s = refl
+
+-- set in a block's words they are all the words of the block with them
+pub sender-words : (l : List ℕ) (s : Sender) → isBlock l ≡ true → ((i : ℕ) → at l i < 4294967296) → setSender s l ≡ wordsOf (withSender (blockOf l) s)
+sender-words l s h w = ap (setSender s) (sym (words-back l h w)) ∙ set-sender (blockOf l) s

@@ -146,3 +146,10 @@ withReceived k x =
 unfoldable pub setReceived : Kcp → List ℕ → List ℕ
 setReceived x l =
     set (set (set (set (set l 6 (x .receiver .«rcv_nxt»)) 16 (x .probe .bits)) 34 (x .receiver .queued)) 35 (x .receiver .held)) 38 (x .acklist .acks)
+
+-- ---- the words of the sending side's numbers
+
+-- the words l with those of s
+unfoldable pub setSender : Sender → List ℕ → List ℕ
+setSender s l =
+    set (set (set (set (set (set l 3 (bit (s .dead))) 4 (s .«snd_una»)) 5 (s .«snd_nxt»)) 20 (s .xmit)) 36 (s .flying)) 37 (s .unsent)

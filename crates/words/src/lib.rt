@@ -3,7 +3,7 @@ ghost use mathlib.Core.Path.{_≡_};
 ghost use mathlib.Core.Bool.{_&&_, true};
 ghost use Prim.Native.Nat.{_+_, _*_, _/_, _%_};
 ghost use lib.ListN.{length};
-ghost use Rattle.words.specs.Words.{bit, under, shortWords, flagWords, Short, settingsOf, clockOf, estimatorOf, congestionOf, probeOf, receiverOf, acklistOf, senderOf, blockOf, isBlock, readOf, firstWords, lastWords, wordsOf, setReceived};
+ghost use Rattle.words.specs.Words.{bit, under, shortWords, flagWords, Short, settingsOf, clockOf, estimatorOf, congestionOf, probeOf, receiverOf, acklistOf, senderOf, blockOf, isBlock, readOf, firstWords, lastWords, wordsOf, setReceived, setSender};
 use block::Kcp;
 use block::acklist::AckList;
 use block::clock::Clock;
@@ -304,4 +304,17 @@ pub fn write_received(block: Kcp, words: &mut [u32])
     words[34] = block.receiver.queued;
     words[35] = block.receiver.held;
     words[38] = block.acklist.acks;
+}
+
+// Writes the words of the sending side's numbers.
+pub fn write_sender(sender: Sender, words: &mut [u32])
+    requires { ⌜ length (now words) ≡ 40 ⌝ }
+    ensures { λ _. ⌜ now (words .exit) ≡ setSender sender (now (words .entry)) ⌝ }
+{
+    words[3] = sender.dead as u32;
+    words[4] = sender.snd_una;
+    words[5] = sender.snd_nxt;
+    words[20] = sender.xmit;
+    words[36] = sender.flying;
+    words[37] = sender.unsent;
 }
