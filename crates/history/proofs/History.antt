@@ -1,13 +1,14 @@
 -- Demand 3 over the calls: any calls from a fresh block, in lent memory of sizes that a constructor takes. Assumes nothing.
-use Prim.Native.Nat.{ℕ, _+_, _-_, zero-le, max}
+use Prim.Native.Nat.{ℕ, zero-le}
 use native.Mathlib.Omega.{arith}
-use mathlib.Core.Path.{_≡_, refl, sym, ap, _∙_}
+use mathlib.Core.Path.{_≡_, refl, sym, _∙_}
 use mathlib.Core.Bool.{Bool, true, false, _&&_}
-use mathlib.Core.List.{List, [], _∷_, _++_}
+use mathlib.Core.List.{List, [], _∷_}
 use lib.ListN.{length}
 use Rattle.serial.specs.Branch.{pick}
 use Rattle.lent.specs.Records.{put}
 use Rattle.slots.specs.Pool.{Lists, lists}
+use Rattle.slots.proofs.Views.{empty-pool}
 use Rattle.block.specs.declared.Kcp.{Kcp}
 use Rattle.block.specs.declared.make.Made.the-variants.{Block, Refused}
 use Rattle.block.specs.declared.refusal.Refusal.the-variants.{BadPool}
@@ -15,130 +16,114 @@ use Rattle.block.specs.Sizes.{receiveSizes, sendSizes, ackSizes}
 use Rattle.block.specs.Fresh.{fresh, Lent, lentSizes, madeOf, Makes}
 use Rattle.block.proofs.Exact.{pool-sizes, ack-sizes}
 use Rattle.block.proofs.Kept.{fresh-fits}
-use Rattle.receiving.specs.Rules.{Segment, Receiving, payloads, joined, fresh as ruleFresh}
-use Rattle.receiving.specs.History.{placed, begun as ruleBegun, step as ruleStep, leaves as ruleLeaves, takes as ruleTakes, hands as ruleHands, inUse as ruleUse}
-use Rattle.receiving.specs.History as rules
+use Rattle.receiving.specs.Rules.{payloads, joined, fresh as ruleFresh}
+use Rattle.receiving.specs.History.{eventRecv, begun as ruleBegun, hands as ruleHands, inUse as ruleUse}
 use Rattle.receiving.proofs.Laws.{and-left, and-right}
-use Rattle.receiving.proofs.Theorem.{Inv, inv-step, inv-begun, inv-sound}
-use Rattle.receive.specs.Memory.{seen}
+use Rattle.receiving.proofs.Theorem.{Inv, inv-run, inv-begun, inv-sound}
 use Rattle.receive.specs.Fits.{receiveFits}
 use Rattle.receive.proofs.Seen.{seen-queued, seen-held}
 use Rattle.receive.proofs.Windows.{seen-fresh, fresh-good}
-use Rattle.kcp.specs.Calls.{pushFits, recvOf}
-use Rattle.kcp.specs.History.{Call, callRecv, Memory, leaves, takes, hands, seenIn, History, step, run, begun, told, SoundCalls}
-use Rattle.kcp.proofs.Memory.{Fine, IsEvent, follows, receive-fits, push-fits, received-bytes}
+use Rattle.transmit.specs.Fits.{sendFits}
+use Rattle.kcp.specs.Calls.{recvOf}
+use Rattle.kcp.specs.Input.{inputFits}
+use Rattle.history.specs.History.{Call, Memory, seenIn, History, step, run, begun, SoundCalls}
+use Rattle.history.proofs.Memory.{Fine, Follows, follows, receive-fits, send-fits, input-fits, received-bytes}
 
 -- what every call keeps
 record Kept (h : History) : Type 0 where
-  inv : Inv (length (h .now .pool .order)) (told h)
+  inv : Inv (length (h .now .rcv .order)) (h .told)
+  sees : h .told .now ≡ seenIn (h .now)
   fine : Fine (h .now)
 
-module _ (h : History) where
-  abbrev slots : ℕ
-  slots = length (h .now .pool .order)
-
-  -- the history once a call or an event leaves the receive side r, which holds so many segments, took the pushes t and handed out g
-  abbrev next : Receiving → ℕ → ℕ → List Segment → List Segment → rules.History
-  next r before after t g = record {
-    now = r;
-    pushes = h .pushes ++ placed (h .moves) (h .now .block .receiver .«rcv_nxt») t;
-    handed = h .handed ++ g;
-    moves = h .moves + length t + before - after;
-    peak = max (h .peak) (r .window);
-  }
-
-  next-same : {r s : Receiving} {b c a d : ℕ} {t u g v : List Segment} → r ≡ s → b ≡ c → a ≡ d → t ≡ u → g ≡ v → next r b a t g ≡ next s c d u v
-  next-same e f i j k = rw (e, f, i, j, k)
-
-  module _ (kept : Kept h) (c : Call) (x : IsEvent c (h .now)) where
-    told-step : told (step h c) ≡ next (seenIn (leaves c (h .now))) (h .now .block .receiver .held) (leaves c (h .now) .block .receiver .held) (takes c (h .now)) (hands c (h .now))
-    unfolding step seen
-    told-step = refl
-
-    rule-step : ruleStep slots (told h) (x .event)
-        ≡ next (ruleLeaves slots (x .event) (seenIn (h .now))) (length (seenIn (h .now) .held)) (length (ruleLeaves slots (x .event) (seenIn (h .now)) .held)) (ruleTakes (x .event) (seenIn (h .now))) (ruleHands (x .event) (seenIn (h .now)))
-    unfolding ruleStep seen
-    rule-step = refl
-
-    -- a call does to the history what its event does
-    same : told (step h c) ≡ ruleStep slots (told h) (x .event)
-    same =
-        let before = seen-held (h .now .block .receiver) (h .now .pool) (kept .fine .good .pool .many) in
-        let after = seen-held (x .after .block .receiver) (x .after .pool) (x .follows .fine .good .pool .many) in
-        let sees = ap seenIn (x .follows .is) ∙ x .follows .sees in
-        let holds = ap (λ (m : Memory). m .block .receiver .held) (x .follows .is) ∙ sym after ∙ ap (λ (r : Receiving). length (r .held)) (x .follows .sees) in
-        told-step ∙ next-same sees (sym before) holds (x .follows .taking) (x .follows .handing) ∙ sym rule-step
-
-    step-kept : Kept (step h c)
-    unfolding step
-    step-kept = record {
-      inv = rw (same, x .follows .is, x .follows .slots) (inv-step slots (told h) (x .event) (kept .inv));
-      fine = rw (x .follows .is) (x .follows .fine);
+step-kept : (h : History) (c : Call) → Kept h → Kept (step h c)
+unfolding step
+step-kept h c kept =
+    let x = follows (h .now) (kept .fine) c in
+    record {
+      inv = rw (x .slots) (inv-run (length (h .now .rcv .order)) _ (x .small) (h .told) (kept .inv));
+      sees = x .sees (h .told) (kept .sees);
+      fine = x .fine;
     }
 
 run-kept : (calls : List Call) (h : History) → Kept h → Kept (run h calls)
 unfolding run
 run-kept [] h kept = kept
-run-kept (c ∷ calls) h kept = run-kept calls (step h c) (step-kept h kept c (follows (h .now) (kept .fine) c))
+run-kept (c ∷ calls) h kept = run-kept calls (step h c) (step-kept h c kept)
 
 kept-sound : (h : History) → Kept h → SoundCalls h
 unfolding ruleUse
 kept-sound h kept =
     let m = kept .fine .good .pool .many in
     record {
-      sound = inv-sound (length (h .now .pool .order)) (told h) (kept .inv);
-      slots = rw (seen-queued (h .now .block .receiver) (h .now .pool) m, seen-held (h .now .block .receiver) (h .now .pool) m);
+      sees = kept .sees;
+      sound = inv-sound (length (h .now .rcv .order)) (h .told) (kept .inv);
+      slots = rw (seen-queued (h .now .block .receiver) (h .now .rcv) m, seen-held (h .now .block .receiver) (h .now .rcv) m);
     }
 
 -- ---- from a fresh block
 
--- a call that is handed the receive pool, or it and the ack memory, is not refused by 15
+-- no call is refused by 15, whichever memory it is handed
 pub record NeverBad (m : Memory) : Type 0 where
-  pub receives : receiveFits (m .block) (m .pool) ≡ true
-  pub pushes : pushFits (m .block) (m .pool) (m .acks) (m .waiting) ≡ true
+  pub receives : receiveFits (m .block) (m .rcv) ≡ true
+  pub sends : sendFits (m .block) (m .snd) ≡ true
+  pub inputs : inputFits (m .block) (m .rcv) (m .acks) (m .waiting) (m .snd) ≡ true
 
 abbrev pub HandsBytes : Memory → List ℕ → Type 0
-HandsBytes m buf = recvOf (m .block) (m .pool) buf .buf ≡ put buf 0 (joined (payloads (hands (callRecv buf) m)))
+HandsBytes m buf = recvOf (m .block) (m .rcv) buf .buf ≡ put buf 0 (joined (payloads (ruleHands (eventRecv (length buf)) (seenIn m))))
 
 -- a fresh block in this lent memory
-abbrev pub freshIn : ℕ → Bool → ℕ → Lists → List ℕ → List ℕ → Memory
-freshIn conv stream interval p acks waiting = record { block = fresh conv stream interval; pool = p; acks = acks; waiting = waiting }
+abbrev pub freshIn : ℕ → Bool → ℕ → Lists → List ℕ → List ℕ → Lists → Memory
+freshIn conv stream interval p acks waiting q = record { block = fresh conv stream interval; rcv = p; acks = acks; waiting = waiting; snd = q }
 
-module _ (conv : ℕ) (stream : Bool) (interval : ℕ) (p : Lists) (acks waiting : List ℕ)
+module _ (conv : ℕ) (stream : Bool) (interval : ℕ) (p : Lists) (acks waiting : List ℕ) (q : Lists)
     (receive : receiveSizes (length (p .order)) (length (p .records)) (length (p .room)) ≡ true)
+    (send : sendSizes (length (q .order)) (length (q .records)) (length (q .room)) ≡ true)
     (ack : ackSizes (length acks) (length waiting) ≡ true) where
-  begun-kept : Kept (begun (freshIn conv stream interval p acks waiting))
+  begun-kept : Kept (begun (freshIn conv stream interval p acks waiting q))
   unfolding begun ruleBegun fresh ruleFresh
   begun-kept =
       let z = pool-sizes 256 1024 2 (length (p .order)) (length (p .records)) (length (p .room)) .holds receive in
+      let y = pool-sizes 128 1024 8 (length (q .order)) (length (q .records)) (length (q .room)) .holds send in
+      let high = y .slots .high in
+      let a = y .recorded in
+      let b = y .roomy in
       let own = fresh-fits (length (p .order)) 0 0 conv stream interval (z .slots .low) .own in
       record {
-        inv = rw (seen-fresh p) (inv-begun (length (p .order)) (z .slots .low));
+        inv = inv-begun (length (p .order)) (z .slots .low);
+        sees = sym (seen-fresh p);
         fine = record {
           good = fresh-good p z;
           sizes = z;
           settings = own .settings;
           probe = own .probe;
           acks = record { bytes = own .waiting; sizes = ack-sizes (length acks) (length waiting) .holds ack; few = zero-le };
+          send = empty-pool 8 q (omega arith) (omega arith) (omega arith);
+          send-sizes = y;
         };
       }
 
+  kept : (calls : List Call) → Kept (run (begun (freshIn conv stream interval p acks waiting q)) calls)
+  kept calls = run-kept calls (begun (freshIn conv stream interval p acks waiting q)) begun-kept
+
   -- demand 3
-  pub history : (calls : List Call) → SoundCalls (run (begun (freshIn conv stream interval p acks waiting)) calls)
-  history calls = kept-sound _ (run-kept calls (begun (freshIn conv stream interval p acks waiting)) begun-kept)
+  pub history : (calls : List Call) → SoundCalls (run (begun (freshIn conv stream interval p acks waiting q)) calls)
+  history calls = kept-sound _ (kept calls)
 
   -- none of the calls is refused by 15
-  pub never-bad : (calls : List Call) → NeverBad (run (begun (freshIn conv stream interval p acks waiting)) calls .now)
-  never-bad calls = let x = run-kept calls (begun (freshIn conv stream interval p acks waiting)) begun-kept in record { receives = receive-fits _ (x .fine); pushes = push-fits _ (x .fine) }
+  pub never-bad : (calls : List Call) → NeverBad (run (begun (freshIn conv stream interval p acks waiting q)) calls .now)
+  never-bad calls = let x = kept calls .fine in record { receives = receive-fits _ x; sends = send-fits _ x; inputs = input-fits _ x }
 
   -- what recv puts into the buffer are the payloads of the segments that the history says are handed out
-  pub handed-bytes : (calls : List Call) → (buf : List ℕ) → HandsBytes (run (begun (freshIn conv stream interval p acks waiting)) calls .now) buf
-  handed-bytes calls buf = let x = run-kept calls (begun (freshIn conv stream interval p acks waiting)) begun-kept in received-bytes _ (x .fine) buf
+  pub handed-bytes : (calls : List Call) (buf : List ℕ) → HandsBytes (run (begun (freshIn conv stream interval p acks waiting q)) calls .now) buf
+  handed-bytes calls buf = received-bytes _ (kept calls .fine) buf
 
 -- the same of what a constructor answers: a block, and then the sizes of what it was lent are within the limits
 module _ (conv : ℕ) (stream : Bool) (interval : ℕ) (m : Lent) (k : Kcp) where
-  abbrev pool : Lists
-  pool = lists (m .rcvOrder) (m .rcvRecords) (m .rcvRoom)
+  abbrev rcv : Lists
+  rcv = lists (m .rcvOrder) (m .rcvRecords) (m .rcvRoom)
+
+  abbrev snd : Lists
+  snd = lists (m .sndOrder) (m .sndRecords) (m .sndRoom)
 
   abbrev receive : Bool
   receive = receiveSizes (length (m .rcvOrder)) (length (m .rcvRecords)) (length (m .rcvRoom))
@@ -150,14 +135,14 @@ module _ (conv : ℕ) (stream : Bool) (interval : ℕ) (m : Lent) (k : Kcp) wher
   ack = ackSizes (length (m .acks)) (length (m .waiting))
 
   pub made-history : Makes m (fresh conv stream interval) (Block k) → (calls : List Call)
-      → SoundCalls (run (begun (record { block = k; pool = lists (m .rcvOrder) (m .rcvRecords) (m .rcvRoom); acks = m .acks; waiting = m .waiting })) calls)
+      → SoundCalls (run (begun (record { block = k; rcv = lists (m .rcvOrder) (m .rcvRecords) (m .rcvRoom); acks = m .acks; waiting = m .waiting; snd = lists (m .sndOrder) (m .sndRecords) (m .sndRoom) })) calls)
   unfolding madeOf lentSizes pick
   made-history made calls = go (lentSizes m) refl (made .answer)
     where
       go : (b : Bool) → lentSizes m ≡ b → Block k ≡ pick b (Block (fresh conv stream interval)) (Refused BadPool)
-          → SoundCalls (run (begun (record { block = k; pool = pool; acks = m .acks; waiting = m .waiting })) calls)
+          → SoundCalls (run (begun (record { block = k; rcv = rcv; acks = m .acks; waiting = m .waiting; snd = snd })) calls)
       go true h e =
           let same : k ≡ fresh conv stream interval = cc in
-          rw same
-          (history conv stream interval pool (m .acks) (m .waiting) (and-left receive send (and-left (receive && send) ack h)) (and-right (receive && send) ack h) calls)
+          let pools = and-left (receive && send) ack h in
+          rw same (history conv stream interval rcv (m .acks) (m .waiting) snd (and-left receive send pools) (and-right receive send pools) (and-right (receive && send) ack h) calls)
       go false h e = let z : _≡_ {A = ℕ} 0 1 = cc in absurd (omega arith)

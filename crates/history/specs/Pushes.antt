@@ -1,5 +1,5 @@
 -- What the segments of a datagram do to the receive side, as the events of its history: a push for each push segment that is not refused, in
--- the order in which the walk meets them. Assumes nothing.
+-- the order in which the walk meets them. That 15, 11 and 1 let no segment be read is said in History. Assumes nothing.
 use Prim.Native.Nat.{ℕ, zero, suc, _+_, _-_}
 use mathlib.Core.List.{List, [], _∷_, _++_}
 use lib.ListN.{length}
@@ -22,6 +22,7 @@ pushBy s at h m (Goes Push) = eventPush (fullAt (m .parts .acklist .acks) (m .ac
 pushBy s at h m (Goes Ack) = []
 pushBy s at h m (Goes Ask) = []
 pushBy s at h m (Goes Tell) = []
+-- no such verdict is given
 pushBy s at h m (Goes (Other cmd)) = []
 pushBy s at h m (Refused why) = []
 

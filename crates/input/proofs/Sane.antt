@@ -25,15 +25,15 @@ pub record Sane (m : Met) : Type 0 where
   pub good : Good (m .parts .receiver) (m .rcv)
   pub pool : Pool 8 (inUse (m .parts .sender)) (m .snd)
 
-sane-adopted : (met : ℕ) (m : Met) → Sane m → Sane (adoptedAt met m)
+pub sane-adopted : (met : ℕ) (m : Met) → Sane m → Sane (adoptedAt met m)
 unfolding adoptedAt
 sane-adopted met m s = record { good = s .good; pool = s .pool }
 
-sane-begun : (h : Header) (m : Met) → Sane m → Sane (begunAt h m)
+pub sane-begun : (h : Header) (m : Met) → Sane m → Sane (begunAt h m)
 unfolding begunAt
 sane-begun h m s = record { good = s .good; pool = una-pool (m .parts .sender) (m .snd) (s .pool) (h .una) }
 
-sane-effect : (now : Now) (kind : Kind) (h : Header) (payload : List ℕ) (m : Met) → h .sn < 2 ^ 32 → length payload ≤ 1476 → Sane m → Sane (effectAt now kind h payload m)
+pub sane-effect : (now : Now) (kind : Kind) (h : Header) (payload : List ℕ) (m : Met) → h .sn < 2 ^ 32 → length payload ≤ 1476 → Sane m → Sane (effectAt now kind h payload m)
 unfolding effectAt pushedAt ackedAt
 sane-effect now Push h payload m small fit s =
     record { good = push-good (m .parts .receiver) (m .rcv) (s .good) (pushOf h payload) small fit (fullAt (m .parts .acklist .acks) (m .acks)); pool = s .pool }

@@ -41,7 +41,7 @@ lands m n e = cc
 
 module _ (now : Now) (s : List ℕ) where
   -- where a segment that is not refused ends: past its header and within the datagram
-  reach : (at : ℕ) (m : Met) (n : ℕ) → at + 24 ≤ length s → segmentAt now s at m .answer ≡ Are n → (at + 24 ≤ n) × (n ≤ length s)
+  pub reach : (at : ℕ) (m : Met) (n : ℕ) → at + 24 ≤ length s → segmentAt now s at m .answer ≡ Are n → (at + 24 ≤ n) × (n ≤ length s)
   unfolding segmentAt actAt
   reach at m n h e = go (verdictOf (m .parts .conv) (m .parts .«input_conv») (headerAt s at) (length s - at - 24)) refl e
     where

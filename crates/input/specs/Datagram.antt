@@ -1,6 +1,7 @@
 -- One datagram: "Segments are read while 24 bytes or more remain; a shorter tail is ignored. The answer is the bytes consumed and the number of
 -- skipped pushes (0 to 62), the latter also beside a refusal." "An input stops at the first refused segment, and then the next two steps don't
--- run. (a) .. (b) .." Assumes nothing.
+-- run. (a) .. (b) .." For a datagram of 24 to 1,500 bytes and memory that is well formed; 15, 11 and 1 are kcp's (kcp/specs/Input).
+-- Assumes nothing.
 use Prim.Native.Nat.{ℕ, zero, suc, _+_}
 use mathlib.Core.Bool.{false}
 use mathlib.Core.List.{List}
@@ -10,7 +11,6 @@ use Rattle.serial.specs.Branch.{pick}
 use Rattle.serial.specs.Wrap.{after}
 use Rattle.slots.specs.Pool.{Lists}
 use Rattle.block.specs.declared.Kcp.{Kcp}
-use Rattle.block.specs.declared.settings.Settings.{Settings}
 use Rattle.block.specs.declared.congestion.Congestion.{Congestion}
 use Rattle.block.specs.declared.refusal.Bytes.{Bytes}
 use Rattle.block.specs.declared.refusal.Bytes.the-variants.{Are, Refused}

@@ -1,4 +1,4 @@
--- What the walk over a datagram needs of the lent memory, and keeps of it. Assumes nothing.
+-- What the walk over a datagram needs of the send pool, and keeps of it. Assumes nothing.
 use Prim.Native.Nat.{ℕ}
 use mathlib.Core.List.{List}
 use Rattle.slots.specs.Pool.{lists, Pool}

@@ -23,7 +23,7 @@ use Rattle.block.specs.declared.refusal.Refusal.the-variants.{ConvInconsistent,
 use Rattle.block.specs.declared.refusal.Bytes.{Bytes}
 use Rattle.block.specs.declared.refusal.Bytes.the-variants.{Are, Refused as NoBytes}
 use Rattle.receiving.specs.Rules.{Segment}
-use Rattle.receive.specs.Memory.{Side, fullAt, pushAt, acksAt, listAt, skipsAt, told}
+use Rattle.receive.specs.Memory.{fullAt, pushAt, acksAt, listAt, skipsAt, told}
 use Rattle.sending.specs.declared.Latest.{Latest}
 use Rattle.sending.specs.Rules.{later}
 use Rattle.transmit.specs.Memory.{unaAt, ackAt}
@@ -188,6 +188,7 @@ effectAt now Push h payload m = pushedAt h payload m
 effectAt now Ack h payload m = ackedAt now h m
 effectAt now Ask h payload m = withParts m (asked (m .parts))
 effectAt now Tell h payload m = m
+-- no verdict lets another cmd go on
 effectAt now (Other cmd) h payload m = m
 
 -- ---- the segment at byte `at` of the datagram s: what is met behind it, and where the next one begins, or why it is refused
@@ -199,7 +200,7 @@ pub record Walked : Type 0 where
 abbrev pub payloadAt : List ℕ → ℕ → ℕ → List ℕ
 payloadAt s at len = part s (at + 24) len
 
--- the answer of a refused segment
+-- the answer that goes with a verdict; it is asked only of a refusal
 abbrev pub refusedBy : Verdict → Bytes
 refusedBy (Goes kind) = Are 0
 refusedBy (Refused why) = NoBytes why

@@ -37,6 +37,7 @@ toppedAt i bytes p = renewed 8 (filled p i bytes) i 1 (0 ∷ [])
 abbrev pub record-of : ℕ → List ℕ
 record-of frg = 0 ∷ frg ∷ 0 ∷ 0 ∷ 0 ∷ 0 ∷ 0 ∷ 0 ∷ []
 
+-- x as `cut` makes it: of its numbers only frg is not 0
 unfoldable pub addedAt : ℕ → Segment → Lists → Lists
 addedAt n x p = placed 8 n p n (freeSlot (take n (p .order))) (segment (record-of (x .frg)) (x .payload))
 

@@ -5,7 +5,7 @@ use mathlib.Core.Bool.{true, false}
 use borrow.Author.Tests.{lt-ltb, le-ltb, le-leb, lt-leb}
 use Rattle.serial.specs.Branch.{pick}
 use Rattle.serial.specs.Wrap.{add32, add16, add64, mul64, low16, notBefore, after}
-use Rattle.sending.specs.Rules.{later, counts, inFlight, gains, fastackOf, pastThreshold, roundedUp, opened, cutTo, grown}
+use Rattle.sending.specs.Rules.{later, counts, inRange, gains, fastackOf, pastThreshold, roundedUp, opened, cutTo, grown}
 use Rattle.sending.specs.declared.Latest.{Latest}
 use Rattle.sending.specs.declared.Window.{Window}
 
@@ -30,7 +30,7 @@ module _ (l : Latest) (sn ts : ℕ) where
       unfolding later pick
       later-both b = rw (e, a, b)
 
-pub counts-seen : (l : Latest) (una next : ℕ) → l .seen ≡ true → inFlight una next (l .sn) ≡ counts l una next
+pub counts-seen : (l : Latest) (una next : ℕ) → l .seen ≡ true → inRange una next (l .sn) ≡ counts l una next
 unfolding counts
 counts-seen l una next e = rw e
 

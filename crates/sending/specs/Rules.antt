@@ -1,6 +1,6 @@
 -- The sending side's rules over lists of segments: of 01's Input what is done with una, Ack, and the two steps at an input's end, (a) and (b).
 -- Every decision is a function over lists of numbers, so that a loop's contract names only order and numbers. Assumes nothing.
-use Prim.Native.Nat.{ℕ, suc, zero, _+_, _-_, _*_, _/_, max}
+use Prim.Native.Nat.{ℕ, suc, _+_, _-_, _/_, max}
 use mathlib.Core.Bool.{Bool, true, cond, not, _&&_, _||_}
 use mathlib.Core.List.{List, [], _∷_, map}
 use lib.ListN.{length, drop, getD}
@@ -57,8 +57,8 @@ parseUna una s = shrunk (withFlying s (drop (acknowledgedBy una (numbers (s .fly
 -- ---- "If sn lies in [snd_una, snd_nxt) by timediff, the matching segment is removed, searching from the front and stopping at the first
 -- ---- number greater than sn as a plain unsigned number; snd_una is then set anew"
 
-unfoldable pub inFlight : ℕ → ℕ → ℕ → Bool
-inFlight una next sn = notBefore sn una && not (notBefore sn next)
+unfoldable pub inRange : ℕ → ℕ → ℕ → Bool
+inRange una next sn = notBefore sn una && not (notBefore sn next)
 
 abbrev pub stops : ℕ → ℕ → Bool
 stops sn n = ltb sn n
@@ -72,7 +72,7 @@ unfoldable pub meets : ℕ → List ℕ → Bool
 meets sn l = ltb (seek sn l) (length l) && eqb (getD l (seek sn l) 0) sn
 
 unfoldable pub found : ℕ → ℕ → ℕ → List ℕ → Bool
-found una next sn l = inFlight una next sn && meets sn l
+found una next sn l = inRange una next sn && meets sn l
 
 unfoldable pub parseAck : ℕ → Sending → Sending
 parseAck sn s =
@@ -86,6 +86,7 @@ later l sn ts = pick (not (l .seen) || (after sn (l .sn) && after ts (l .ts))) (
 -- ---- (a) "If an ack was seen and max_ack lies in [snd_una, snd_nxt): of the send-buffer segments, front to back, every flight record numbered
 -- ---- before it, with ts not later than latest_ts, gains one fastack"
 
+-- "not later": timediff(latest_ts, ts) ≥ 0, which at a distance of exactly 2^31 does not hold. "Every": a number past max_ack ends nothing
 unfoldable pub gains : ℕ → ℕ → ℕ → ℕ → Bool
 gains maxAck latestTs sn ts = after maxAck sn && notBefore latestTs ts
 
@@ -107,19 +108,19 @@ raised maxAck latestTs s = record {
 }
 
 unfoldable pub counts : Latest → ℕ → ℕ → Bool
-counts l una next = l .seen && inFlight una next (l .sn)
+counts l una next = l .seen && inRange una next (l .sn)
 
 unfoldable pub parseFastack : Latest → Sending → Sending
 parseFastack l s = cond (counts l (s .una) (s .next)) (withFlying s (map (raised (l .sn) (l .ts)) (s .flying))) s
 
--- ---- (b) "If snd_una moved forward and cwnd < rmt_wnd, the window grows as in `input`: by 1 and incr by mss while under ssthresh; otherwise
--- ---- the incr rule of the source, its u16 cast kept"; then the source's cut to rmt_wnd. One step for each input.
+-- ---- (b) "If .. cwnd < rmt_wnd, the window grows as in `input`: by 1 and incr by mss while under ssthresh; otherwise the incr rule of the
+-- ---- source, its u16 cast kept"; then the source's cut to rmt_wnd. One step for each input; whether snd_una moved forward is asked by input.
 
 -- "if incr < mss { incr = mss }; incr += (mss * mss) / incr + (mss / 16)"
 unfoldable pub pastThreshold : ℕ → ℕ → ℕ
 pastThreshold mss incr = add64 (max incr mss) (add64 (mul64 mss mss / max incr mss) (mss / 16))
 
--- "if (cwnd + 1) * mss <= incr { cwnd = ((incr + mss - 1) / mss) as u16 }"
+-- "if (cwnd + 1) * mss <= incr { cwnd = ((incr + mss - 1) / mss) as u16 }"; mss is not 0 behind the test for 15
 unfoldable pub roundedUp : ℕ → ℕ → ℕ → ℕ
 roundedUp mss incr cwnd = pick (leb (mul64 (cwnd + 1) mss) incr) (low16 (add64 incr (mss - 1) / mss)) cwnd
 

@@ -1,5 +1,5 @@
--- "send cuts at mss; frg counts down to 0; in stream mode frg is 0, and the last queued segment is first filled up to mss. It answers the bytes
--- queued.", refusals 8 and 12, and "8 before 12". Assumes nothing.
+-- "send cuts at mss; frg counts down to 0; in stream mode frg is 0, and the last queued segment is first filled up to mss", refusals 8 and 12, and
+-- "8 before 12". What it answers stands beside the memory function (send/specs/Memory). Assumes nothing.
 use Prim.Native.Nat.{ℕ, suc, zero, _+_, _-_, _/_, min}
 use mathlib.Core.Bool.{Bool, cond, _&&_}
 use mathlib.Core.List.{List, [], _∷_, _++_}
@@ -58,7 +58,7 @@ lastOf l = getD l (length l - 1) (waits 0 [])
 abbrev pub lastSize : List Segment → ℕ
 lastSize l = length (lastOf l .payload)
 
--- a segment that bytes have joined
+-- a segment that bytes have joined, or none where all are used up; its frg becomes 0
 abbrev pub topped : List ℕ → Segment → Segment
 topped bytes s = record {
   conv = s .conv;

@@ -7,10 +7,10 @@ ghost use lib.ListN.{length, getD};
 ghost use Rattle.lent.specs.Records.{numberAt};
 ghost use Rattle.slots.specs.Entries.{slotOf};
 ghost use Rattle.slots.specs.Pool.{lists, numbersAt};
-ghost use Rattle.sending.specs.Rules.{acknowledgedBy, unaOf, inFlight, stops, fastackOf, later, counts, pastThreshold, roundedUp, opened, cutTo, grown};
+ghost use Rattle.sending.specs.Rules.{acknowledgedBy, unaOf, inRange, stops, fastackOf, later, counts, pastThreshold, roundedUp, opened, cutTo, grown};
 ghost use Rattle.sending.specs.Numbers.{Ends};
 
-// The highest number that the acks of a datagram gave, max_ack, with its time, latest_ts, once an ack was seen.
+// max_ack and latest_ts, once an ack of the datagram was seen: those of its first ack, and then of each that is later in both.
 pub struct Latest {
     pub seen: bool,
     pub sn: u32,
@@ -75,8 +75,8 @@ pub fn una_of(order: &[u32], records: &[u32], count: usize, next: u32) -> u32
 }
 
 // Whether a number is from una on and before the next one.
-pub fn in_flight(una: u32, next: u32, sn: u32) -> bool
-    ensures { λ r. ⌜ r ≡ inFlight una next sn ⌝ }
+pub fn in_range(una: u32, next: u32, sn: u32) -> bool
+    ensures { λ r. ⌜ r ≡ inRange una next sn ⌝ }
 {
     if serial::not_before(sn, una) {
         return !serial::not_before(sn, next);
@@ -159,7 +159,7 @@ impl Latest {
         ensures { λ r. ⌜ r ≡ counts self una next ⌝ }
     {
         if self.seen {
-            return in_flight(una, next, self.sn);
+            return in_range(una, next, self.sn);
         }
         false
     }

@@ -21,7 +21,7 @@ use Rattle.slots.specs.Pool.{Lists, Stored, segment, stands, view, numbersAt, P
 use Rattle.slots.proofs.Views.{record-in, stands-numbers, stands-number, view-numbers, out-pool, out-view, out-view-behind, dropped-pool, dropped-view, dropped-view-behind, renewed-own, renewed-others, renewed-pool}
 use Rattle.block.specs.declared.sender.Sender.{Sender}
 use Rattle.sending.specs.declared.Latest.{Latest}
-use Rattle.sending.specs.Rules.{Segment, Sending, numbers, withFlying, acknowledgedBy, shrunk, parseUna, inFlight, seek, meets, found, parseAck, fastackOf, raised, counts, parseFastack}
+use Rattle.sending.specs.Rules.{Segment, Sending, numbers, withFlying, acknowledgedBy, shrunk, parseUna, inRange, seek, meets, found, parseAck, fastackOf, raised, counts, parseFastack}
 use Rattle.transmit.specs.Memory.{segmentOf, segmentsAt, seen, inUse, flyingNumbers, Side, side, landed, shrunkAt, droppedAt, unaAt, removedAt, ackAt, numberIn, raisedOne, raisedFrom, fastackAt}
 use Rattle.transmit.proofs.Moved.{from-length, out-length}
 
@@ -144,7 +144,7 @@ meets-within sn l e = ltb-true (seek sn l) (length l) (both (ltb (seek sn l) (le
 
 pub found-within : (una next sn : ℕ) (l : List ℕ) → found una next sn l ≡ true → seek sn l < length l
 unfolding found
-found-within una next sn l e = meets-within sn l (both (inFlight una next sn) (meets sn l) e .1)
+found-within una next sn l e = meets-within sn l (both (inRange una next sn) (meets sn l) e .1)
 
 module _ (s : Sender) (p : Lists) (x : Pool 8 (inUse s) p) where
   module _ (i : ℕ) (h : i < s .flying) where

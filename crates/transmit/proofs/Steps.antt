@@ -19,7 +19,7 @@ use Rattle.sending.specs.declared.Flight.{Flight}
 use Rattle.sending.specs.declared.Latest.{Latest}
 use Rattle.sending.specs.declared.Sought.{Sought}
 use Rattle.sending.specs.Numbers.{Ends}
-use Rattle.sending.specs.Rules.{acknowledgedBy, unaOf, inFlight, meets, seek, found, counts, fastackOf}
+use Rattle.sending.specs.Rules.{acknowledgedBy, unaOf, inRange, meets, seek, found, counts, fastackOf}
 use Rattle.transmit.specs.Memory.{inUse, flyingNumbers, side, landed, withUna, shrunkAt, droppedAt, unaAt, removedAt, ackAt, numberIn, raisedOne, raisedFrom, fastackAt}
 use Rattle.transmit.specs.Fits.{Lies}
 use Rattle.transmit.proofs.Moved.{from-length, from-at, out-length, out-each}
@@ -81,19 +81,19 @@ module _ (s : Sender) (o k : List ℕ) (l : Lies s o k) where
   -- ---- `parse_ack`
 
   module _ (sn : ℕ) where
-    abbrev inRange : Bool
-    inRange = inFlight (s .«snd_una») (s .«snd_nxt») sn
+    abbrev ranged : Bool
+    ranged = inRange (s .«snd_una») (s .«snd_nxt») sn
 
     unmet : found (s .«snd_una») (s .«snd_nxt») sn (flyingNumbers s pool) ≡ false → shrunkAt (side s pool) ≡ ackAt sn s pool
     unfolding ackAt
     unmet e = ap shrunkAt (sym (pick-false _ _ e))
 
-    pub ack-out : (b : Bool) → b ≡ inRange → not b ≡ true → shrunkAt (side s pool) ≡ ackAt sn s pool
+    pub ack-out : (b : Bool) → b ≡ ranged → not b ≡ true → shrunkAt (side s pool) ≡ ackAt sn s pool
     unfolding found
     ack-out b e h = unmet (rw (← e, not-true b h))
 
-    module _ (b : Bool) (e : b ≡ inRange) (h : not b ≡ false) (f : Sought) (ends : Ends sn (flyingNumbers s pool) f) where
-      in-range : inRange ≡ true
+    module _ (b : Bool) (e : b ≡ ranged) (h : not b ≡ false) (f : Sought) (ends : Ends sn (flyingNumbers s pool) f) where
+      in-range : ranged ≡ true
       in-range = sym e ∙ not-false b h
 
       pub ack-unmet : not (f .met) ≡ true → shrunkAt (side s pool) ≡ ackAt sn s pool

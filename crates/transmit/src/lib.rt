@@ -65,7 +65,7 @@ pub fn parse_ack(sender: Sender, order: &mut [u32], records: &[u32], sn: u32) ->
     requires { ⌜ Lies sender (now order) (now records) ⌝ }
     ensures { λ r. ⌜ side r (lists (now (order .exit)) (now (records .entry)) []) ≡ ackAt sn sender (lists (now (order .entry)) (now (records .entry)) []) ⌝ }
 {
-    if !sending::in_flight(sender.snd_una, sender.snd_nxt, sn) {
+    if !sending::in_range(sender.snd_una, sender.snd_nxt, sn) {
         return shrink(sender, order, records);
     }
     let sought = sending::seek(order, records, sender.flying as usize, sn);

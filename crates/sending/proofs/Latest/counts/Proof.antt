@@ -5,14 +5,14 @@ use borrow.Author.Needs.{needs}
 use Rattle.sending.proofs.Latest.counts.Statement.{statement}
 use Rattle.sending.proofs.Latest.counts.Tie as tie
 
-in-flight-requires : tie.Need-in-flight-requires
-in-flight-requires c κs = search needs
+in-range-requires : tie.Need-in-range-requires
+in-range-requires c κs = search needs
 
 returns : tie.Need-returns
-returns c = let a = c .before .before .args in c .in-flight .ensures ∙ counts-seen (a .self) (a .una) (a .next) (c .before .if1 .taken)
+returns c = let a = c .before .before .args in c .in-range .ensures ∙ counts-seen (a .self) (a .una) (a .next) (c .before .if1 .taken)
 
 returns-2 : tie.Need-returns-2
 returns-2 c = let a = c .before .args in counts-none (a .self) (a .una) (a .next) (c .if1 .left)
 
 pub counts-spec : {M : Type 1} → statement M
-counts-spec = tie.close (tie.spec in-flight-requires returns returns-2)
+counts-spec = tie.close (tie.spec in-range-requires returns returns-2)
