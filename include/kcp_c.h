@@ -114,6 +114,14 @@ uint32_t kcp_push(uint32_t *words, size_t count, uint32_t *order, size_t slots, 
                   size_t bytes, uint32_t *acks, size_t acks_numbers, const uint8_t *waiting, size_t waiting_bytes, uint32_t sn,
                   uint8_t frg, uint32_t ts, const uint8_t *payload, size_t len, uint32_t *skipped);
 
+/* The call that is handed the send pool: its order (one number a slot), its records (eight numbers a slot) and its room (1,476 bytes a
+   slot), of 128 to 1,024 slots. */
+
+/* queues len bytes; the bytes queued are put into queued: 0, or 8 (UserBufTooBig), 12 (SendPoolFull) or 15, which leave queued as it was.
+   8 in a stream: what joined the last segment stays; else a refusal leaves all as it was */
+uint32_t kcp_send(uint32_t *words, size_t count, uint32_t *snd_order, size_t snd_slots, uint32_t *snd_records, size_t snd_numbers,
+                  uint8_t *snd_room, size_t snd_bytes, const uint8_t *data, size_t len, size_t *queued);
+
 #ifdef __cplusplus
 }
 #endif
