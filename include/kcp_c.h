@@ -107,12 +107,15 @@ uint32_t kcp_recv(uint32_t *words, size_t count, uint32_t *order, size_t slots, 
 uint32_t kcp_set_wndsize(uint32_t *words, size_t count, uint16_t sndwnd, uint16_t rcvwnd, const uint32_t *order, size_t slots,
                          const uint32_t *records, size_t numbers, const uint8_t *room, size_t bytes);
 
-/* A push alone, as input does it for each push of a datagram; here to be held against the Rust's, and to go when input comes. How many
-   pushes were skipped for want of room in the ack list, 0 or 1, is put into skipped, 0 where it is refused: 0, or 11 (DatagramTooBig) where no slot holds the
-   payload, or 15. */
-uint32_t kcp_push(uint32_t *words, size_t count, uint32_t *order, size_t slots, uint32_t *records, size_t numbers, uint8_t *room,
-                  size_t bytes, uint32_t *acks, size_t acks_numbers, const uint8_t *waiting, size_t waiting_bytes, uint32_t sn,
-                  uint8_t frg, uint32_t ts, const uint8_t *payload, size_t len, uint32_t *skipped);
+/* One datagram, with both pools (the send pool's records are eight numbers a slot), the acks and what waits: 0 with values[0] = the bytes
+   consumed and values[1] = 0; or 15, 11 (DatagramTooBig) or 1 (InvalidSegmentSize), which leave all as it was, or 2 (ConvInconsistent),
+   3 (InvalidSegmentDataSize) or 4 (UnsupportedCmd), which leave what the segments before the refused one did, and after 3 and 4 the conv
+   adopted; values are then what goes with the refusal: 1 the size; 2 the own and the met conv; 3 len and the bytes left; 4 the cmd; 0 where
+   there is none. skipped = how many pushes were skipped for want of room in the ack list, 0 to 62, also beside a refusal. */
+uint32_t kcp_input(uint32_t *words, size_t count, uint32_t *rcv_order, size_t rcv_slots, uint32_t *rcv_records, size_t rcv_numbers,
+                   uint8_t *rcv_room, size_t rcv_bytes, uint32_t *snd_order, size_t snd_slots, uint32_t *snd_records,
+                   size_t snd_numbers, const uint8_t *snd_room, size_t snd_bytes, uint32_t *acks, size_t acks_numbers,
+                   const uint8_t *waiting, size_t waiting_bytes, const uint8_t *data, size_t len, size_t values[2], uint32_t *skipped);
 
 /* The call that is handed the send pool: its order (one number a slot), its records (eight numbers a slot) and its room (1,476 bytes a
    slot), of 128 to 1,024 slots. */

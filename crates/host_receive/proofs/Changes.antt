@@ -1,23 +1,21 @@
--- A move, a recv and a push change no number of the block but those that `write_received` writes. Assumes nothing.
+-- A move and a recv change no number of the block but those that `write_received` writes. Assumes nothing.
 use Prim.Native.Nat.{ℕ}
 use mathlib.Core.Path.{_≡_, refl}
 use mathlib.Core.Bool.{Bool, true, false}
 use mathlib.Core.List.{List}
-use lib.Dec.{leb}
 use lib.ListN.{length}
 use Rattle.serial.specs.Branch.{pick}
-use Rattle.serial.specs.Window.{inWindow}
 use Rattle.slots.specs.Pool.{Lists}
 use Rattle.block.specs.declared.probe.Probe.{Probe}
 use Rattle.block.specs.declared.receiver.Receiver.{Receiver}
 use Rattle.block.specs.declared.Kcp.{Kcp}
 use Rattle.block.specs.declared.set.Set.{Set}
-use Rattle.block.specs.Parts.{withReceiver, withProbe, withAckList}
+use Rattle.block.specs.Parts.{withReceiver, withProbe}
 use Rattle.words.specs.Words.{withReceived}
-use Rattle.receiving.specs.Rules.{Segment, Answer, refused, gives, skipped, isHeld, tells}
+use Rattle.receiving.specs.Rules.{Answer, refused, gives, tells}
 use Rattle.receive.specs.Fits.{receiveFits}
-use Rattle.receive.specs.Memory.{Side, side, heldNumbers, movedBy, moveBufAt, movedAt, putIn, storedAt, pushAt, fullAt, answerAt, messageAt, freedAt, handedAt, recvAt, told, probeAt}
-use Rattle.kcp.specs.Calls.{moveBufOf, RecvOut, recvOf, pushFits, PushOut, pushed, pushOf}
+use Rattle.receive.specs.Memory.{Side, movedBy, moveBufAt, movedAt, answerAt, messageAt, freedAt, handedAt, recvAt, told, probeAt}
+use Rattle.kcp.specs.Calls.{moveBufOf, RecvOut, recvOf}
 
 -- ---- the parts
 
@@ -26,11 +24,6 @@ record Keeps (r x : Receiver) : Type 0 where
   window : x .«rcv_wnd» ≡ r .«rcv_wnd»
   largest : x .largest ≡ r .largest
 
-one-of : (r : Receiver) (t : Bool) (a b : Side) → Keeps r (a .receiver) → Keeps r (b .receiver) → Keeps r (pick t a b .receiver)
-unfolding pick
-one-of r true a b p q = p
-one-of r false a b p q = q
-
 keeps-move : (r : Receiver) (p : Lists) → Keeps r (moveBufAt r p)
 unfolding moveBufAt movedBy
 keeps-move r p = record { window = refl; largest = refl }
@@ -38,18 +31,6 @@ keeps-move r p = record { window = refl; largest = refl }
 keeps-moved : (r : Receiver) (x : Side) → Keeps r (x .receiver) → Keeps r (movedAt x .receiver)
 unfolding movedAt moveBufAt movedBy
 keeps-moved r x h = record { window = h .window; largest = h .largest }
-
-keeps-stored : (r : Receiver) (p : Lists) (s : Segment) → Keeps r (storedAt r p s .receiver)
-unfolding storedAt putIn
-keeps-stored r p s =
-    one-of r (isHeld (s .sn) (heldNumbers r p)) (side r p) (putIn r p s) (record { window = refl; largest = refl }) (record { window = refl; largest = refl })
-
-keeps-push : (full : Bool) (r : Receiver) (p : Lists) (s : Segment) → Keeps r (pushAt full r p s .receiver)
-unfolding pushAt
-keeps-push full r p s =
-    let stays : Keeps r r = record { window = refl; largest = refl } in
-    one-of r (skipped full (r .«rcv_nxt») (r .«rcv_wnd») (s .sn)) (side r p) _ stays
-    (one-of r (inWindow (r .«rcv_nxt») (r .«rcv_wnd») (s .sn)) (movedAt (storedAt r p s)) (side r p) (keeps-moved r (storedAt r p s) (keeps-stored r p s)) stays)
 
 keeps-handed : (a : Answer) (r : Receiver) (p : Lists) → Keeps r (handedAt a r p .receiver)
 unfolding handedAt freedAt
@@ -72,10 +53,9 @@ keeps-probe r n p = keeps-times (tells (r .«rcv_wnd») (r .queued) n) p
 
 -- ---- the block
 
-changed : (k : Kcp) (r : Receiver) (p : Probe) (n : ℕ) → Keeps (k .receiver) r → Times (k .probe) p
-    → withAckList (withProbe (withReceiver k r) p) (record { acks = n; waiting = k .acklist .waiting })
-    ≡ withReceived k (withAckList (withProbe (withReceiver k r) p) (record { acks = n; waiting = k .acklist .waiting }))
-changed k r p n h t = rw (← h .window, ← h .largest, ← t .at, ← t .wait)
+changed : (k : Kcp) (r : Receiver) (p : Probe) → Keeps (k .receiver) r → Times (k .probe) p
+    → withProbe (withReceiver k r) p ≡ withReceived k (withProbe (withReceiver k r) p)
+changed k r p h t = rw (← h .window, ← h .largest, ← t .at, ← t .wait)
 
 -- an outcome by a test
 either : (k : Kcp) {A : Type 0} (f : A → Kcp) (t : Bool) (a b : A) → f a ≡ withReceived k (f a) → f b ≡ withReceived k (f b) → f (pick t a b) ≡ withReceived k (f (pick t a b))
@@ -86,22 +66,13 @@ either k f false a b p q = q
 pub move-changes : (k : Kcp) (p : Lists) → moveBufOf k p .block ≡ withReceived k (moveBufOf k p .block)
 unfolding moveBufOf
 move-changes k p =
-    either k (λ (s : Set). s .block) (receiveFits k p) _ _ (changed k (moveBufAt (k .receiver) p) (k .probe) (k .acklist .acks) (keeps-move (k .receiver) p) (record { at = refl; wait = refl })) refl
+    either k (λ (s : Set). s .block) (receiveFits k p) _ _ (changed k (moveBufAt (k .receiver) p) (k .probe) (keeps-move (k .receiver) p) (record { at = refl; wait = refl })) refl
 
 pub recv-changes : (k : Kcp) (p : Lists) (buf : List ℕ) → recvOf k p buf .block ≡ withReceived k (recvOf k p buf .block)
 unfolding recvOf recvAt
 recv-changes k p buf =
     either k (λ (o : RecvOut). o .block) (receiveFits k p) _ _
-    (changed k (recvAt (length buf) (k .receiver) p .receiver) (probeAt (k .receiver) (recvAt (length buf) (k .receiver) p .receiver .queued) (k .probe)) (k .acklist .acks)
+    (changed k (recvAt (length buf) (k .receiver) p .receiver) (probeAt (k .receiver) (recvAt (length buf) (k .receiver) p .receiver .queued) (k .probe))
     (keeps-handed (answerAt (length buf) (k .receiver) p) (k .receiver) p)
     (keeps-probe (k .receiver) (recvAt (length buf) (k .receiver) p .receiver .queued) (k .probe)))
-    refl
-
-pub push-changes : (k : Kcp) (p : Lists) (acks waiting : List ℕ) (s : Segment) (ts : ℕ) → pushOf k p acks waiting s ts .block ≡ withReceived k (pushOf k p acks waiting s ts .block)
-unfolding pushOf pushed
-push-changes k p acks waiting s ts =
-    either k (λ (o : PushOut). o .block) (pushFits k p acks waiting) _ _
-    (either k (λ (o : PushOut). o .block) (leb (length (s .payload)) 1476) (pushed k p acks s ts) _
-    (changed k (pushAt (fullAt (k .acklist .acks) acks) (k .receiver) p s .receiver) (k .probe) _ (keeps-push (fullAt (k .acklist .acks) acks) (k .receiver) p s) (record { at = refl; wait = refl }))
-    refl)
     refl

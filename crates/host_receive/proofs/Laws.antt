@@ -12,12 +12,11 @@ use Rattle.block.specs.Refusals.{numberOfAnswer}
 use Rattle.words.specs.Words.{at, wordsOf, blockOf, isBlock, withReceived, setReceived}
 use Rattle.words.proofs.Back.{received-words}
 use Rattle.host.specs.Words.{setWords}
-use Rattle.receiving.specs.Rules.{Segment}
 use Rattle.receive.specs.declared.Length.{Length}
 use Rattle.receive.specs.Memory.{numberOfLength}
-use Rattle.kcp.specs.Calls.{moveBufOf, peeksizeOf, RecvOut, recvOf, PushOut, pushOf}
-use Rattle.host_receive.proofs.Changes.{move-changes, recv-changes, push-changes}
-use Rattle.host_receive.specs.Words.{Called, lengthIn, WordsPeeked, WordsReceived, WordsPushed}
+use Rattle.kcp.specs.Calls.{moveBufOf, peeksizeOf, RecvOut, recvOf}
+use Rattle.host_receive.proofs.Changes.{move-changes, recv-changes}
+use Rattle.host_receive.specs.Words.{Called, lengthIn, WordsPeeked, WordsReceived}
 
 -- of t, which tells whether the words l are a block, the code asks whether it fails
 is-none : (l : List ℕ) {t : Bool} → t ≡ isBlock l → not t ≡ true → isBlock l ≡ false
@@ -49,15 +48,6 @@ module _ (l : List ℕ) {t : Bool} (e : t ≡ isBlock l) where
       pool = sym (pick-false _ _ none);
       buffer = sym (pick-false _ _ none);
       length = sym (pick-false _ _ none);
-    }
-
-    pub pushed-none : (p : Lists) (acks waiting : List ℕ) (s : Segment) (ts n : ℕ) → WordsPushed p acks waiting s ts l n 15 p acks l n
-    pushed-none p acks waiting s ts n = record {
-      refusal = sym (pick-false _ _ none);
-      words = words-stay (λ k. pushOf k p acks waiting s ts .block);
-      pool = sym (pick-false _ _ none);
-      list = sym (pick-false _ _ none);
-      skips = sym (pick-false _ _ none);
     }
 
   -- they are the block b
@@ -107,16 +97,6 @@ module _ (l : List ℕ) {t : Bool} (e : t ≡ isBlock l) where
       length = d ∙ ap (λ (y : RecvOut). lengthIn n (y .answer)) q ∙ gives (λ k. lengthIn n (recvOf k p buf .answer)) n;
     }
 
-    pub pushed : ((i : ℕ) → at l i < 4294967296) → (p : Lists) (acks waiting : List ℕ) (s : Segment) (ts n : ℕ) (o : PushOut) {r n′ : ℕ} {a : List ℕ} → o ≡ pushOf b p acks waiting s ts
-        → a ≡ setReceived (o .block) l → r ≡ numberOfAnswer (o .answer) → n′ ≡ o .skipped → WordsPushed p acks waiting s ts l n r (o .pool) (o .acks) a n′
-    pushed w p acks waiting s ts n o q v c d = record {
-      refusal = c ∙ ap (λ (y : PushOut). numberOfAnswer (y .answer)) q ∙ gives (λ k. numberOfAnswer (pushOf k p acks waiting s ts .answer)) 15;
-      words = written w (λ k. pushOf k p acks waiting s ts .block) (o .block) (push-changes b p acks waiting s ts) (ap (λ (y : PushOut). y .block) q) v;
-      pool = ap (λ (y : PushOut). y .pool) q ∙ gives (λ k. pushOf k p acks waiting s ts .pool) p;
-      list = ap (λ (y : PushOut). y .acks) q ∙ gives (λ k. pushOf k p acks waiting s ts .acks) acks;
-      skips = d ∙ ap (λ (y : PushOut). y .skipped) q ∙ gives (λ k. pushOf k p acks waiting s ts .skipped) n;
-    }
-
 -- ---- any two outcomes that meet a promise coincide
 
 pub called-one : {f : Kcp → Set} {l a a′ : List ℕ} {r r′ : ℕ} → Called f l r a → Called f l r′ a′ → (r ≡ r′) × (a ≡ a′)
@@ -128,7 +108,3 @@ peeked-one u v = (u .refusal ∙ sym (v .refusal), u .length ∙ sym (v .length)
 module _ {p q q′ : Lists} {buf l b b′ a a′ : List ℕ} {n r r′ m m′ : ℕ} where
   pub received-one : WordsReceived p buf l n r q b a m → WordsReceived p buf l n r′ q′ b′ a′ m′ → (r ≡ r′) × (q ≡ q′) × (b ≡ b′) × (a ≡ a′) × (m ≡ m′)
   received-one u v = (u .refusal ∙ sym (v .refusal), u .pool ∙ sym (v .pool), u .buffer ∙ sym (v .buffer), u .words ∙ sym (v .words), u .length ∙ sym (v .length))
-
-module _ {p q q′ : Lists} {acks waiting l b b′ a a′ : List ℕ} {s : Segment} {ts n r r′ m m′ : ℕ} where
-  pub pushed-one : WordsPushed p acks waiting s ts l n r q b a m → WordsPushed p acks waiting s ts l n r′ q′ b′ a′ m′ → (r ≡ r′) × (q ≡ q′) × (b ≡ b′) × (a ≡ a′) × (m ≡ m′)
-  pushed-one u v = (u .refusal ∙ sym (v .refusal), u .pool ∙ sym (v .pool), u .list ∙ sym (v .list), u .words ∙ sym (v .words), u .skips ∙ sym (v .skips))

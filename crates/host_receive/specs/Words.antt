@@ -10,11 +10,10 @@ use Rattle.block.specs.declared.set.Set.{Set}
 use Rattle.block.specs.Refusals.{numberOfAnswer}
 use Rattle.words.specs.Words.{blockOf, isBlock}
 use Rattle.host.specs.Words.{setWords}
-use Rattle.receiving.specs.Rules.{Segment}
 use Rattle.receive.specs.declared.Length.{Length}
 use Rattle.receive.specs.declared.Length.the-variants.{Is, Refused}
 use Rattle.receive.specs.Memory.{numberOfLength}
-use Rattle.kcp.specs.Calls.{peeksizeOf, recvOf, pushOf}
+use Rattle.kcp.specs.Calls.{peeksizeOf, recvOf}
 
 -- of a call f that answers nothing but whether it was refused: its answer r for the words l, and what stands there afterwards
 pub record Called (f : Kcp → Set) (l : List ℕ) (r : ℕ) (after : List ℕ) : Type 0 where
@@ -37,11 +36,3 @@ pub record WordsReceived (p : Lists) (buf l : List ℕ) (n r : ℕ) (p′ : List
   pub pool : p′ ≡ pick (isBlock l) (recvOf (blockOf l) p buf .pool) p
   pub buffer : buf′ ≡ pick (isBlock l) (recvOf (blockOf l) p buf .buf) buf
   pub length : n′ ≡ pick (isBlock l) (lengthIn n (recvOf (blockOf l) p buf .answer)) n
-
--- of a push: its answer, and the words, the pool, the ack list and the place of the skipped count afterwards
-pub record WordsPushed (p : Lists) (acks waiting : List ℕ) (s : Segment) (ts : ℕ) (l : List ℕ) (n r : ℕ) (p′ : Lists) (acks′ l′ : List ℕ) (n′ : ℕ) : Type 0 where
-  pub refusal : r ≡ pick (isBlock l) (numberOfAnswer (pushOf (blockOf l) p acks waiting s ts .answer)) 15
-  pub words : l′ ≡ setWords (λ k. pushOf k p acks waiting s ts .block) l
-  pub pool : p′ ≡ pick (isBlock l) (pushOf (blockOf l) p acks waiting s ts .pool) p
-  pub list : acks′ ≡ pick (isBlock l) (pushOf (blockOf l) p acks waiting s ts .acks) acks
-  pub skips : n′ ≡ pick (isBlock l) (pushOf (blockOf l) p acks waiting s ts .skipped) n

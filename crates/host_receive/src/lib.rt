@@ -4,7 +4,7 @@ ghost use mathlib.Core.Path.{_≡_};
 ghost use Rattle.slots.specs.Pool.{lists};
 ghost use Rattle.receive.specs.Memory.{numberOfLength};
 ghost use Rattle.kcp.specs.Calls.{moveBufOf, setWndsizeOf};
-ghost use Rattle.host_receive.specs.Words.{Called, lengthIn, WordsPeeked, WordsReceived, WordsPushed};
+ghost use Rattle.host_receive.specs.Words.{Called, lengthIn, WordsPeeked, WordsReceived};
 use receive::Length;
 
 // The number of an answer's refusal, or 0.
@@ -102,43 +102,4 @@ pub fn recv(
     let answer = out.answer;
     *length = length_in(*length, answer);
     number_of(answer)
-}
-
-// A push alone; the number of pushes skipped, 0 or 1, is put into `skipped`. 0, or 11 or 15, which leave all else.
-pub fn push(
-    words: &mut [u32],
-    order: &mut [u32],
-    records: &mut [u32],
-    room: &mut [u8],
-    acks: &mut [u32],
-    waiting: &[u8],
-    sn: u32,
-    frg: u8,
-    ts: u32,
-    payload: &[u8],
-    skipped: &mut u32,
-) -> u32
-    ensures { λ r. ⌜ WordsPushed (lists (now (order .entry)) (now (records .entry)) (now (room .entry))) (now (acks .entry)) (now (waiting .entry)) (record { sn = sn; frg = frg; payload = now (payload .entry) }) ts
-        (now (words .entry)) (now (skipped .entry)) r (lists (now (order .exit)) (now (records .exit)) (now (room .exit))) (now (acks .exit)) (now (words .exit)) (now (skipped .exit)) ⌝ }
-{
-    if !words::is_block(words) {
-        return 15;
-    }
-    let block = words::block(words);
-    let out = kcp::push(
-        block,
-        order,
-        records,
-        room,
-        acks,
-        waiting,
-        sn,
-        frg,
-        ts,
-        payload,
-    );
-    words::write_received(out.block, words);
-    *skipped = out.skipped;
-    let answer = out.answer;
-    answer.number()
 }

@@ -17,6 +17,7 @@ use wire::Put;
 pub mod calls; // the calls over a block's words
 pub mod receiver; // those that are handed the receive pool
 pub mod sender; // those that are handed the send pool
+pub mod arrivals; // one datagram
 
 // timediff(a, b).
 #[no_mangle]

@@ -3,7 +3,7 @@
 ghost use mathlib.Core.Path.{_≡_};
 ghost use Rattle.slots.specs.Pool.{lists};
 ghost use Rattle.kcp.specs.Calls.{moveBufOf, setWndsizeOf};
-ghost use Rattle.host_receive.specs.Words.{Called, WordsPeeked, WordsReceived, WordsPushed};
+ghost use Rattle.host_receive.specs.Words.{Called, WordsPeeked, WordsReceived};
 
 // Moves held segments to the queue. 0, or 15.
 #[no_mangle]
@@ -61,37 +61,4 @@ pub extern "C" fn kcp_recv(
         (lists (now (order .exit)) (now (records .entry)) (now (room .entry))) (now (buf .exit)) (now (words .exit)) (now (length .exit)) ⌝ }
 {
     host_receive::recv(words, order, records, room, buf, length)
-}
-
-// A push alone; the number of pushes skipped, 0 or 1, is put into `skipped`. 0, or 11 or 15, which leave all else.
-#[no_mangle]
-pub extern "C" fn kcp_push(
-    words: &mut [u32],
-    order: &mut [u32],
-    records: &mut [u32],
-    room: &mut [u8],
-    acks: &mut [u32],
-    waiting: &[u8],
-    sn: u32,
-    frg: u8,
-    ts: u32,
-    payload: &[u8],
-    skipped: &mut u32,
-) -> u32
-    ensures { λ r. ⌜ WordsPushed (lists (now (order .entry)) (now (records .entry)) (now (room .entry))) (now (acks .entry)) (now (waiting .entry)) (record { sn = sn; frg = frg; payload = now (payload .entry) }) ts
-        (now (words .entry)) (now (skipped .entry)) r (lists (now (order .exit)) (now (records .exit)) (now (room .exit))) (now (acks .exit)) (now (words .exit)) (now (skipped .exit)) ⌝ }
-{
-    host_receive::push(
-        words,
-        order,
-        records,
-        room,
-        acks,
-        waiting,
-        sn,
-        frg,
-        ts,
-        payload,
-        skipped,
-    )
 }
