@@ -50,7 +50,8 @@ returns-2 : tie.Need-returns-2
 returns-2 c =
     let a = c .before .before .before .before .before .before .before .before .before .before .before .before .before .before .before .before .before .before .before .before .before .before .before .before .before .before .before .before .args in
     let p = lists (a .order .now) (a .records .now) (a .room .now) in
-    sent-words _ (c .before .before .before .before .before .before .before .before .before .before .before .before .before .before .before .before .before .before .before .before .before .is-block .ensures) p (a .bytes .now) (a .queued .now) (c .before .before .before .before .before .before .before .before .before .before .before .before .before .before .before .before .before .before .before .before .if1 .left) (c .before .before .before .before .before .before .before .before .before .before .before .before .before .before .before .before .before .before .block .ensures) (λ i. omega (arith, c .before .before .before .before .before .before .before .before .before .before .before .before .before .before .before .before .before .before .before .before .before .before .before .before .before .before .before .slice-known .given i)) _ (c .before .before .before .before .before .before .before .before .before .before .before .before .before .before .send .ensures .is) (c .before .before .before .before .before .write-sender .ensures) (c .number-of .ensures) (c .before .count-in .ensures)
+    let o = c .before .before .before .before .before .before .before .before .before .before .before .before .before .before .send .result in
+    sent-words _ (c .before .before .before .before .before .before .before .before .before .before .before .before .before .before .before .before .before .before .before .before .before .is-block .ensures) p (a .bytes .now) (a .queued .now) (c .before .before .before .before .before .before .before .before .before .before .before .before .before .before .before .before .before .before .before .before .if1 .left) (c .before .before .before .before .before .before .before .before .before .before .before .before .before .before .before .before .before .before .block .ensures) (λ i. omega (arith, c .before .before .before .before .before .before .before .before .before .before .before .before .before .before .before .before .before .before .before .before .before .before .before .before .before .before .before .slice-known .given i)) (record { block = o .block; answer = o .answer; pool = lists _ _ _ }) (c .before .before .before .before .before .before .before .before .before .before .before .before .before .before .send .ensures .is) (c .before .before .before .before .before .write-sender .ensures) (c .number-of .ensures) (c .before .count-in .ensures)
 
 pub send-spec : {M : Type 1} → statement M
 send-spec =
