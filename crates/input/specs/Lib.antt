@@ -1,3 +1,4 @@
 pub mod Segment
 pub mod Datagram
 pub mod Fits
+pub mod Examples

@@ -1,3 +1,4 @@
 pub mod Rules
 pub mod Numbers
 pub mod Send
+pub mod Examples
