@@ -4,8 +4,8 @@ use mathlib.Core.Path.{_≡_, refl, sym, _∙_}
 use mathlib.Core.List.{List, [], _∷_, _++_, append-assoc, append-nil}
 use native.Mathlib.Numerals.{add-one}
 use native.Mathlib.Omega.{arith}
-use lib.ListN.{length, take, drop, getD, set, drop-of-length-le}
-use lib.Seq.{drop-cons, take-all, take-suc-set}
+use lib.ListN.{length, take, drop, getD, set, length-drop, drop-of-length-le}
+use lib.Seq.{drop-cons, drop-at, length-take-le, take-all, take-length, take-suc-set}
 use Rattle.serial.specs.Wrap.{add32, mul32}
 use Rattle.replay.specs.Payload.{sumFrom, rising}
 
@@ -34,3 +34,14 @@ fill-end bs byte i n h l =
     let e : n - i ≡ 0 = omega arith in
     let k : length bs ≤ i = omega arith in
     rw (e, append-nil, take-all i bs k)
+
+-- the bytes y from 24 on are filled, and then those of f go in front
+pub segment-made : (d y f z : List ℕ) (byte : ℕ) → 24 ≤ length d → length f ≡ 24
+    → y ≡ rising byte (length (take (length d - 24) (drop 24 d)))
+    → z ≡ take (length f) f ++ drop (length f) (take 24 d ++ (y ++ drop (length d - 24) (drop 24 d)))
+    → z ≡ f ++ rising byte (length d - 24)
+segment-made d y f z byte h l e k =
+    let m : length (take (length d - 24) (drop 24 d)) ≡ length d - 24 = length-take-le (length d - 24) (drop 24 d) (rw length-drop (omega arith)) in
+    let w : drop (length d - 24) (drop 24 d) ≡ [] = drop-of-length-le (drop 24 d) {i = length d - 24} (rw length-drop (omega arith)) in
+    let s : drop 24 (take 24 d ++ y) ≡ y = drop-at (take 24 d) y 24 (length-take-le 24 d h) in
+    k ∙ rw (take-length f, l, w, append-nil, s, e, m)

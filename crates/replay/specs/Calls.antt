@@ -3,11 +3,13 @@ use Prim.Native.Nat.{ℕ}
 use lib.ListN.{take}
 use Rattle.block.specs.declared.Kcp.{Kcp}
 use Rattle.block.specs.declared.set.Set.{Set}
-use Rattle.block.specs.Refusals.{numberOfAnswer}
+use Rattle.wire.specs.declared.Header.{Header}
+use Rattle.block.specs.Refusals.{numberOfAnswer, numberOfBytes}
 use Rattle.receive.specs.declared.Length.{Length}
 use Rattle.receive.specs.declared.Length.the-variants.{Is, Refused}
 use Rattle.receive.specs.Memory.{numberOfLength}
-use Rattle.kcp.specs.Calls.{RecvOut, PushOut}
+use Rattle.input.specs.Datagram.{ReadOut}
+use Rattle.kcp.specs.Calls.{RecvOut}
 use Rattle.replay.specs.declared.table.Numbers.{Numbers}
 use Rattle.replay.specs.declared.calls.Made.{Made}
 use Rattle.replay.specs.Payload.{sumOf}
@@ -28,9 +30,23 @@ madeByLength k answer sum =
 abbrev pub madeByRecv : RecvOut → Made
 madeByRecv o = madeByLength (o .block) (o .answer) (sumOf (take (lengthIn (o .answer)) (o .buf)))
 
-abbrev pub madeByPush : PushOut → Made
-madeByPush o =
-    record { block = o .block; answer = record { refusal = numberOfAnswer (o .answer); length = 0; sum = 0; skipped = o .skipped } }
+-- the header of a push that says of the block only what the block has already
+abbrev pub pushHeader : Kcp → ℕ → ℕ → ℕ → ℕ → Header
+pushHeader k sn frg ts len =
+    record {
+      conv = k .settings .conv;
+      cmd = 81;
+      frg = frg;
+      wnd = k .congestion .«rmt_wnd»;
+      ts = ts;
+      sn = sn;
+      una = k .sender .«snd_una»;
+      len = len;
+    }
+
+abbrev pub madeByInput : ReadOut → Made
+madeByInput o =
+    record { block = o .block; answer = record { refusal = numberOfBytes (o .answer); length = 0; sum = 0; skipped = o .skipped } }
 
 abbrev pub numbersOf : Kcp → Numbers
 numbersOf k =

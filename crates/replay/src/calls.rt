@@ -1,10 +1,15 @@
 // The calls of the sample, made on the port.
 ghost use mathlib.Core.Path.{_≡_};
-ghost use lib.ListN.{length};
+ghost use Prim.Native.Nat.{_≤_, _-_};
+ghost use mathlib.Core.List.{_++_};
+ghost use lib.ListN.{length, drop};
 ghost use Rattle.slots.specs.Pool.{lists};
 ghost use Rattle.receive.specs.Memory.{numberOfLength};
-ghost use Rattle.kcp.specs.Calls.{moveBufOf, peeksizeOf, recvOf, setWndsizeOf, pushOf};
-ghost use Rattle.replay.specs.Calls.{lengthIn, madeBySet, madeByLength, madeByRecv, madeByPush, numbersOf};
+ghost use Rattle.wire.specs.Header.{headerBytes};
+ghost use Rattle.block.specs.Refusals.{numberOfBytes};
+ghost use Rattle.kcp.specs.Calls.{moveBufOf, peeksizeOf, recvOf, setWndsizeOf};
+ghost use Rattle.kcp.specs.Input.{inputOf};
+ghost use Rattle.replay.specs.Calls.{lengthIn, madeBySet, madeByLength, madeByRecv, madeByInput, pushHeader, numbersOf};
 ghost use Rattle.replay.specs.Payload.{rising};
 use crate::low8;
 use crate::payload::checksum;
@@ -14,8 +19,10 @@ use crate::table::Call;
 use crate::table::Numbers;
 use crate::wide;
 use block::Kcp;
+use block::refusal::Bytes;
 use block::set::Set;
 use receive::Length;
+use wire::Header;
 
 // The block after a call, and what the call answered.
 pub struct Made {
@@ -109,41 +116,51 @@ fn recv(block: Kcp, order: &mut [u32], records: &[u32], room: &[u8], buf: &mut [
     made_by_length(after, answer, checksum(buf, length_of(answer)))
 }
 
-fn push(
+// The refusal's number, or 0, of an answer that counts bytes.
+fn number_of_bytes(answer: Bytes) -> u32
+    ensures { λ r. ⌜ r ≡ numberOfBytes answer ⌝ }
+{
+    match answer {
+        Bytes::Are { count: _ } => 0,
+        Bytes::Refused { why } => why.number(),
+    }
+}
+
+fn input(
     block: Kcp,
     order: &mut [u32],
     records: &mut [u32],
     room: &mut [u8],
+    snd_order: &mut [u32],
+    snd_records: &mut [u32],
+    snd_room: &[u8],
     acks: &mut [u32],
     waiting: &[u8],
-    sn: u32,
-    frg: u8,
-    ts: u32,
-    payload: &[u8],
+    datagram: &[u8],
 ) -> Made
-    ensures { λ r. ⌜ r ≡ madeByPush (pushOf block (lists (now (order .entry)) (now (records .entry)) (now (room .entry))) (now (acks .entry)) (now (waiting .entry)) (record { sn = sn; frg = frg; payload = now (payload .entry) }) ts) ⌝ }
+    ensures { λ r. ⌜ r ≡ madeByInput (inputOf block (lists (now (order .entry)) (now (records .entry)) (now (room .entry))) (now (acks .entry)) (now (waiting .entry)) (lists (now («snd_order» .entry)) (now («snd_records» .entry)) (now («snd_room» .entry))) (now (datagram .entry))) ⌝ }
 {
-    let pushed = kcp::push(
+    let out = kcp::input(
         block,
         order,
         records,
         room,
+        snd_order,
+        snd_records,
+        snd_room,
         acks,
         waiting,
-        sn,
-        frg,
-        ts,
-        payload,
+        datagram,
     );
-    let after = pushed.block;
-    let answer = pushed.answer;
+    let after = out.block;
+    let answer = out.answer;
     Made {
         block: after,
         answer: Answer {
-            refusal: answer.number(),
+            refusal: number_of_bytes(answer),
             length: 0,
             sum: 0,
-            skipped: pushed.skipped,
+            skipped: out.skipped,
         },
     }
 }
@@ -165,67 +182,102 @@ fn unknown(block: Kcp) -> Made
     }
 }
 
-// The push of a payload that starts with `byte`, made in `part`.
-fn push_filled(
+// The header of a push that says of the block only what the block has already: its conv, the peer's window and snd_una.
+fn push_header(block: Kcp, sn: u32, frg: u8, ts: u32, len: u32) -> Header
+    ensures { λ r. ⌜ r ≡ pushHeader block sn frg ts len ⌝ }
+{
+    Header {
+        conv: block.settings.conv,
+        cmd: wire::PUSH,
+        frg: frg,
+        wnd: block.congestion.rmt_wnd,
+        ts: ts,
+        sn: sn,
+        una: block.sender.snd_una,
+        len: len,
+    }
+}
+
+// Writes the datagram of one segment: the header, and after it `byte` and those after it.
+fn put_segment(datagram: &mut [u8], header: Header, byte: u8)
+    requires { ⌜ 24 ≤ length (now datagram) ⌝ }
+    ensures { λ _. ⌜ now (datagram .exit) ≡ headerBytes header ++ rising byte (length (now (datagram .entry)) - 24) ⌝ }
+{
+    fill(&mut datagram[24..], byte);
+    let front = header.bytes();
+    bytes::copy(&front, datagram);
+}
+
+// A push of the sample as a datagram, made in `part`, which is as long.
+fn push_in(
     block: Kcp,
     order: &mut [u32],
     records: &mut [u32],
     room: &mut [u8],
+    snd_order: &mut [u32],
+    snd_records: &mut [u32],
+    snd_room: &[u8],
     acks: &mut [u32],
     waiting: &[u8],
-    sn: u32,
-    frg: u8,
-    ts: u32,
+    header: Header,
     byte: u8,
     part: &mut [u8],
 ) -> Made
-    ensures { λ r. ⌜ r ≡ madeByPush (pushOf block (lists (now (order .entry)) (now (records .entry)) (now (room .entry))) (now (acks .entry)) (now (waiting .entry)) (record { sn = sn; frg = frg; payload = rising byte (length (now (part .entry))) }) ts) ⌝ }
+    requires { ⌜ 24 ≤ length (now part) ⌝ }
+    ensures { λ r. ⌜ r ≡ madeByInput (inputOf block (lists (now (order .entry)) (now (records .entry)) (now (room .entry))) (now (acks .entry)) (now (waiting .entry)) (lists (now («snd_order» .entry)) (now («snd_records» .entry)) (now («snd_room» .entry))) (headerBytes header ++ rising byte (length (now (part .entry)) - 24))) ⌝ }
 {
-    fill(part, byte);
-    push(
+    put_segment(part, header, byte);
+    input(
         block,
         order,
         records,
         room,
+        snd_order,
+        snd_records,
+        snd_room,
         acks,
         waiting,
-        sn,
-        frg,
-        ts,
         part,
     )
 }
 
-// A push of the sample, its payload made in `buf`. One that asks for more bytes than that has is unknown.
+// A push of the sample, its datagram made in `buf`. One that asks for more bytes than that has is unknown.
 fn push_step(
     block: Kcp,
     call: Call,
     order: &mut [u32],
     records: &mut [u32],
     room: &mut [u8],
+    snd_order: &mut [u32],
+    snd_records: &mut [u32],
+    snd_room: &[u8],
     acks: &mut [u32],
     waiting: &[u8],
     buf: &mut [u8],
 ) -> Made {
-    let len = wide(call.fourth);
+    let len = wire::OVERHEAD + wide(call.fourth);
     if buf.len() < len {
         return unknown(block);
     }
-    let sn = call.first;
-    let frg = low8(call.second);
-    let ts = call.third;
-    let byte = low8(call.fifth);
-    push_filled(
+    let header = push_header(
+        block,
+        call.first,
+        low8(call.second),
+        call.third,
+        call.fourth,
+    );
+    push_in(
         block,
         order,
         records,
         room,
+        snd_order,
+        snd_records,
+        snd_room,
         acks,
         waiting,
-        sn,
-        frg,
-        ts,
-        byte,
+        header,
+        low8(call.fifth),
         &mut buf[..len],
     )
 }
@@ -253,13 +305,28 @@ pub fn make(
     order: &mut [u32],
     records: &mut [u32],
     room: &mut [u8],
+    snd_order: &mut [u32],
+    snd_records: &mut [u32],
+    snd_room: &[u8],
     acks: &mut [u32],
     waiting: &[u8],
     buf: &mut [u8],
 ) -> Made {
     let code = call.code;
     match code {
-        1 => push_step(block, call, order, records, room, acks, waiting, buf),
+        1 => push_step(
+            block,
+            call,
+            order,
+            records,
+            room,
+            snd_order,
+            snd_records,
+            snd_room,
+            acks,
+            waiting,
+            buf,
+        ),
         2 => recv_step(block, call, order, records, room, buf),
         3 => peeksize(block, order, records, room),
         4 => move_buf(block, order, records, room),

@@ -28,6 +28,7 @@ const COUNT: usize = 300;
 // A number as a wider one.
 fn wide(x: u32) -> usize
     ensures { λ r. ⌜ r ≡ x ⌝ }
+    ensures { λ r. ⌜ r < 4294967296 ⌝ }
 {
     x as usize
 }
@@ -60,6 +61,9 @@ fn run(
     order: &mut [u32],
     records: &mut [u32],
     room: &mut [u8],
+    snd_order: &mut [u32],
+    snd_records: &mut [u32],
+    snd_room: &[u8],
     acks: &mut [u32],
     waiting: &[u8],
     buf: &mut [u8],
@@ -74,7 +78,19 @@ fn run(
     while i < COUNT {
         let step = step_at(steps, i);
         let call = step.call;
-        let made = make(block, call, order, records, room, acks, waiting, buf);
+        let made = make(
+            block,
+            call,
+            order,
+            records,
+            room,
+            snd_order,
+            snd_records,
+            snd_room,
+            acks,
+            waiting,
+            buf,
+        );
         block = made.block;
         tally = tally.with(agrees(made, step));
         i += 1;
@@ -96,7 +112,8 @@ fn write_tally(tally: Tally) {
     io::write_all(STDOUT_FILENO, b"\n");
 }
 
-// The sample, and the payloads of 512 receive slots and of 128 send slots. Each contract gives the length alone, which lending the array needs.
+// The sample, the payloads of 512 receive slots and of 128 send slots, and the smaller arrays. Each contract gives the length alone, which
+// lending the array needs.
 fn sample_steps() -> [u32; 4500]
     ensures { λ r. ⌜ 4500 ≡ length r ⌝ }
 {
@@ -115,26 +132,44 @@ fn send_room() -> [u8; 188928]
     [0; 188928]
 }
 
-// Makes a fresh block over the memory lent, makes the steps on it, and writes the tally. The send pool is there for the making alone.
+fn numbers_512() -> [u32; 512]
+    ensures { λ r. ⌜ 512 ≡ length r ⌝ }
+{
+    [0; 512]
+}
+
+fn numbers_1024() -> [u32; 1024]
+    ensures { λ r. ⌜ 1024 ≡ length r ⌝ }
+{
+    [0; 1024]
+}
+
+fn buffer() -> [u8; 4096]
+    ensures { λ r. ⌜ 4096 ≡ length r ⌝ }
+{
+    [0; 4096]
+}
+
+// Makes a fresh block over the memory lent, makes the steps on it, and writes the tally.
 fn play(
     order: &mut [u32],
     records: &mut [u32],
     room: &mut [u8],
+    snd_order: &mut [u32],
+    snd_records: &mut [u32],
+    snd_room: &[u8],
     acks: &mut [u32],
     waiting: &[u8],
     buf: &mut [u8],
 ) {
-    let snd_order = [0u32; 128];
-    let snd_records = [0u32; 1024];
-    let snd_room = send_room();
     let made = Kcp::new(
         1,
         order,
         records,
         room,
-        &snd_order,
-        &snd_records,
-        &snd_room,
+        snd_order,
+        snd_records,
+        snd_room,
         acks,
         waiting,
     );
@@ -143,21 +178,39 @@ fn play(
         return;
     };
     let steps = sample_steps();
-    write_tally(run(block, &steps, order, records, room, acks, waiting, buf));
+    write_tally(run(
+        block,
+        &steps,
+        order,
+        records,
+        room,
+        snd_order,
+        snd_records,
+        snd_room,
+        acks,
+        waiting,
+        buf,
+    ));
 }
 
 // R = 512, since the sample's windows go up to 256; A = 512, since nothing empties the ack list.
 fn main() {
-    let mut order = [0u32; 512];
-    let mut records = [0u32; 1024];
+    let mut order = numbers_512();
+    let mut records = numbers_1024();
     let mut room = receive_room();
-    let mut acks = [0u32; 1024];
+    let mut snd_order = [0u32; 128];
+    let mut snd_records = numbers_1024();
+    let snd_room = send_room();
+    let mut acks = numbers_1024();
     let waiting = [0u8; 1500];
-    let mut buf = [0u8; 4096];
+    let mut buf = buffer();
     play(
         &mut order,
         &mut records,
         &mut room,
+        &mut snd_order,
+        &mut snd_records,
+        &snd_room,
         &mut acks,
         &waiting,
         &mut buf,

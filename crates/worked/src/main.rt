@@ -1,21 +1,33 @@
 // The worked values of 01 that are run: each row calls the port, and writes what was called and the number of its refusal, 0 where there is
 // none. The file stdout has the same lines, written from 01. Each group of rows is a function over the fresh block.
 ghost use mathlib.Core.Path.{_≡_};
-ghost use lib.ListN.{length};
+ghost use Prim.Native.Nat.{_≤_};
+ghost use mathlib.Core.List.{_++_};
+ghost use lib.ListN.{length, getD, drop};
 ghost use Rattle.serial.specs.Branch.{pick};
 ghost use Rattle.slots.specs.Pool.{lists};
+ghost use Rattle.wire.specs.Header.{headerBytes};
+ghost use Rattle.block.specs.Refusals.{numberOfBytes, valuesOfBytes};
 ghost use Rattle.block.specs.Sizes.{mtuSize};
 ghost use Rattle.kcp.specs.Calls.{wndsizeNumber};
+ghost use Rattle.kcp.specs.Input.{inputOf, inputNumber};
 use block::Kcp;
 use block::make::Made;
+use block::refusal::Bytes;
 use libc::STDOUT_FILENO;
+use wire::Header;
+
+// A line: what the number is, and the number.
+fn write_line(what: &[u8], number: u64) {
+    io::write_all(STDOUT_FILENO, what);
+    io::write_all(STDOUT_FILENO, b": ");
+    io::print_decimal(STDOUT_FILENO, number);
+    io::write_all(STDOUT_FILENO, b"\n");
+}
 
 // The line of one row.
 fn write_row(called: &[u8], number: u32) {
-    io::write_all(STDOUT_FILENO, called);
-    io::write_all(STDOUT_FILENO, b": ");
-    io::print_decimal(STDOUT_FILENO, number as u64);
-    io::write_all(STDOUT_FILENO, b"\n");
+    write_line(called, number as u64);
 }
 
 // The number of what set_wndsize answers.
@@ -43,6 +55,66 @@ fn mtu_number(block: Kcp, mtu: usize) -> u32
     answer.number()
 }
 
+// What input answers.
+fn heard(
+    block: Kcp,
+    order: &mut [u32],
+    records: &mut [u32],
+    room: &mut [u8],
+    snd_order: &mut [u32],
+    snd_records: &mut [u32],
+    snd_room: &[u8],
+    acks: &mut [u32],
+    waiting: &[u8],
+    datagram: &[u8],
+) -> Bytes
+    ensures { λ r. ⌜ r ≡ inputOf block (lists (now (order .entry)) (now (records .entry)) (now (room .entry))) (now (acks .entry)) (now (waiting .entry)) (lists (now («snd_order» .entry)) (now («snd_records» .entry)) (now («snd_room» .entry))) (now (datagram .entry)) .answer ⌝ }
+    ensures { λ r. ⌜ numberOfBytes r ≡ inputNumber block (lists (now (order .entry)) (now (records .entry)) (now (room .entry))) (now (acks .entry)) (now (waiting .entry)) (lists (now («snd_order» .entry)) (now («snd_records» .entry)) (now («snd_room» .entry))) (now (datagram .entry)) ⌝ }
+{
+    let out = kcp::input(
+        block,
+        order,
+        records,
+        room,
+        snd_order,
+        snd_records,
+        snd_room,
+        acks,
+        waiting,
+        datagram,
+    );
+    out.answer
+}
+
+// The number of what input answers.
+fn bytes_number(answer: Bytes) -> u32
+    ensures { λ r. ⌜ r ≡ numberOfBytes answer ⌝ }
+{
+    match answer {
+        Bytes::Are { count: _ } => 0,
+        Bytes::Refused { why } => why.number(),
+    }
+}
+
+// The bytes that it counts, or the first value of its refusal.
+fn bytes_count(answer: Bytes) -> usize
+    ensures { λ r. ⌜ r ≡ getD (valuesOfBytes answer) 0 0 ⌝ }
+{
+    match answer {
+        Bytes::Are { count } => count,
+        Bytes::Refused { why } => why.values().first,
+    }
+}
+
+// Puts a header in front of the bytes that follow it.
+fn put_header(datagram: &mut [u8], header: Header)
+    requires { ⌜ 24 ≤ length (now datagram) ⌝ }
+    ensures { λ _. ⌜ now (datagram .exit) ≡ headerBytes header ++ drop 24 (now (datagram .entry)) ⌝ }
+{
+    let front = header.bytes();
+    bytes::copy(&front, datagram);
+}
+
 // "R = 256: rcvwnd 128 passes, 129 gets 14."
 fn window_rows(block: Kcp, order: &[u32], records: &[u32], room: &[u8]) {
     write_row(
@@ -55,6 +127,50 @@ fn window_rows(block: Kcp, order: &[u32], records: &[u32], room: &[u8]) {
     );
 }
 
+// "Input of 1,500 bytes is read, 1,501 gets 11": the first 1,500 bytes of the datagram, and all 1,501.
+fn input_rows(
+    block: Kcp,
+    order: &mut [u32],
+    records: &mut [u32],
+    room: &mut [u8],
+    snd_order: &mut [u32],
+    snd_records: &mut [u32],
+    snd_room: &[u8],
+    acks: &mut [u32],
+    waiting: &[u8],
+    datagram: &[u8],
+)
+    requires { ⌜ 1501 ≡ length (now datagram) ⌝ }
+{
+    let read = heard(
+        block,
+        order,
+        records,
+        room,
+        snd_order,
+        snd_records,
+        snd_room,
+        acks,
+        waiting,
+        &datagram[..1500],
+    );
+    write_row(b"input of 1500 bytes", bytes_number(read));
+    write_line(b"its bytes consumed", bytes_count(read) as u64);
+    let longer = heard(
+        block,
+        order,
+        records,
+        room,
+        snd_order,
+        snd_records,
+        snd_room,
+        acks,
+        waiting,
+        datagram,
+    );
+    write_row(b"input of 1501 bytes", bytes_number(longer));
+}
+
 // "mtu 49 and 1,501 get 10", and the ends that pass.
 fn mtu_rows(block: Kcp) {
     write_row(b"set_mtu(49)", mtu_number(block, 49));
@@ -63,7 +179,7 @@ fn mtu_rows(block: Kcp) {
     write_row(b"set_mtu(1501)", mtu_number(block, 1501));
 }
 
-// The payloads of 256 receive slots and of 128 send slots. Each contract gives the length alone, which lending the array needs.
+// The payloads of 256 receive slots and of 128 send slots, and 1,501 bytes. Each contract gives the length alone, which lending the array needs.
 fn receive_room() -> [u8; 377856]
     ensures { λ r. ⌜ 377856 ≡ length r ⌝ }
 {
@@ -76,19 +192,52 @@ fn send_room() -> [u8; 188928]
     [0; 188928]
 }
 
-// Makes a fresh block over the memory lent, and writes the rows. The send pool is there for the making alone.
-fn rows(order: &[u32], records: &[u32], room: &[u8], acks: &[u32], waiting: &[u8]) {
-    let snd_order = [0u32; 128];
-    let snd_records = [0u32; 1024];
-    let snd_room = send_room();
+fn datagram_room() -> [u8; 1501]
+    ensures { λ r. ⌜ 1501 ≡ length r ⌝ }
+{
+    [0; 1501]
+}
+
+// A push of the longest payload, its bytes 0, and one byte more.
+fn datagram() -> [u8; 1501]
+    ensures { λ r. ⌜ 1501 ≡ length r ⌝ }
+{
+    let mut out = datagram_room();
+    put_header(
+        &mut out,
+        Header {
+            conv: 1,
+            cmd: wire::PUSH,
+            frg: 0,
+            wnd: 128,
+            ts: 0,
+            sn: 0,
+            una: 0,
+            len: 1476,
+        },
+    );
+    out
+}
+
+// Makes a fresh block over the memory lent, and writes the rows.
+fn rows(
+    order: &mut [u32],
+    records: &mut [u32],
+    room: &mut [u8],
+    snd_order: &mut [u32],
+    snd_records: &mut [u32],
+    snd_room: &[u8],
+    acks: &mut [u32],
+    waiting: &[u8],
+) {
     let made = Kcp::new(
         1,
         order,
         records,
         room,
-        &snd_order,
-        &snd_records,
-        &snd_room,
+        snd_order,
+        snd_records,
+        snd_room,
         acks,
         waiting,
     );
@@ -97,15 +246,39 @@ fn rows(order: &[u32], records: &[u32], room: &[u8], acks: &[u32], waiting: &[u8
         return;
     };
     window_rows(block, order, records, room);
+    input_rows(
+        block,
+        order,
+        records,
+        room,
+        snd_order,
+        snd_records,
+        snd_room,
+        acks,
+        waiting,
+        &datagram(),
+    );
     mtu_rows(block);
 }
 
-// R = 256 and A = 128.
+// R = 256, P = 128 and A = 128.
 fn main() {
-    let order = [0u32; 256];
-    let records = [0u32; 512];
-    let room = receive_room();
-    let acks = [0u32; 256];
+    let mut order = [0u32; 256];
+    let mut records = [0u32; 512];
+    let mut room = receive_room();
+    let mut snd_order = [0u32; 128];
+    let mut snd_records = [0u32; 1024];
+    let snd_room = send_room();
+    let mut acks = [0u32; 256];
     let waiting = [0u8; 1500];
-    rows(&order, &records, &room, &acks, &waiting);
+    rows(
+        &mut order,
+        &mut records,
+        &mut room,
+        &mut snd_order,
+        &mut snd_records,
+        &snd_room,
+        &mut acks,
+        &waiting,
+    );
 }

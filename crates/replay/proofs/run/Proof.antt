@@ -10,19 +10,21 @@ use Rattle.replay.proofs.run.Statement.{statement}
 use Rattle.replay.proofs.run.Tie as tie
 
 -- no lent memory changes its length
-record Kept (o r m a b o′ r′ m′ a′ b′ : List ℕ) : Type 0 where
+record Kept (o r m so sr a b o′ r′ m′ so′ sr′ a′ b′ : List ℕ) : Type 0 where
   order : length o′ ≡ length o
   records : length r′ ≡ length r
   room : length m′ ≡ length m
+  sndOrder : length so′ ≡ length so
+  sndRecords : length sr′ ≡ length sr
   acks : length a′ ≡ length a
   buf : length b′ ≡ length b
 
 abbrev Inv-loop : tie.InvT-loop
-Inv-loop steps order₀ records₀ room₀ acks₀ waiting buf₀ block₀ tally₀ i₀ order records room acks buf block tally i =
-    (i ≤ 300) × ((tally .steps ≡ i) × (Fair tally × Kept order₀ records₀ room₀ acks₀ buf₀ order records room acks buf))
+Inv-loop steps order₀ records₀ room₀ snd-order₀ snd-records₀ snd-room acks₀ waiting buf₀ block₀ tally₀ i₀ order records room snd-order snd-records acks buf block tally i =
+    (i ≤ 300) × ((tally .steps ≡ i) × (Fair tally × Kept order₀ records₀ room₀ snd-order₀ snd-records₀ acks₀ buf₀ order records room snd-order snd-records acks buf))
 
 abbrev μ-loop : tie.MeasureT-loop
-μ-loop steps order₀ records₀ room₀ acks₀ waiting buf₀ block₀ tally₀ i₀ order records room acks buf block tally i =
+μ-loop steps order₀ records₀ room₀ snd-order₀ snd-records₀ snd-room acks₀ waiting buf₀ block₀ tally₀ i₀ order records room snd-order snd-records acks buf block tally i =
     300 - i
 
 new-requires : tie.Need-new-requires Inv-loop μ-loop
@@ -42,21 +44,21 @@ agrees-requires c κs = search needs
 
 with-requires : tie.Need-with-requires Inv-loop μ-loop
 with-requires c κs =
-    let t = c .before .before .before .before .before .before .before .before .before .before .before .before .before .before .before .before .before .before .before .before in
+    let t = c .before .before .before .before .before .before .before .before .before .before .before .before .before .before .before .before .before .before .before .before .before .before .before .before .before .before in
     let l = t .before .loop in
     (l .inv .1 .1 .0, omega (arith, l .inv .1 .0, t .loop-test .taken))
 
 add-i : tie.Need-add-i Inv-loop μ-loop
-add-i c = omega arith
+add-i c = omega (arith, c .before .before .before .before .before .before .before .before .before .before .before .before .before .before .before .before .before .before .before .before .before .before .before .before .before .before .before .loop-test .taken)
 
 loop-less : tie.Need-loop-less Inv-loop μ-loop
-loop-less c = omega arith
+loop-less c = omega (arith, c .before .before .before .before .before .before .before .before .before .before .before .before .before .before .before .before .before .before .before .before .before .before .before .before .before .before .before .loop-test .taken)
 
 loop-again : tie.Need-loop-again Inv-loop μ-loop
 loop-again c =
-    let m = c .before .before .before .before .before .before .before .before .before .before .before .before .before in
+    let m = c .before .before .before .before .before .before .before .before .before .before .before .before .before .before .before .before .before in
     let k = m .make .kept in
-    let t = m .before .before .before .before .before .before .before .before in
+    let t = m .before .before .before .before .before .before .before .before .before .before in
     let l = t .before .loop in
     let e = l .inv .1 .1 .1 in (
       omega (arith, t .loop-test .taken),
@@ -68,8 +70,10 @@ loop-again c =
             order = k .1 .1 .0 ∙ e .order;
             records = k .1 .1 .1 .0 ∙ e .records;
             room = k .1 .1 .1 .1 .0 ∙ e .room;
-            acks = k .1 .1 .1 .1 .1 .0 ∙ e .acks;
-            buf = k .1 .1 .1 .1 .1 .1 .1 .0 ∙ e .buf;
+            sndOrder = k .1 .1 .1 .1 .1 .0 ∙ e .sndOrder;
+            sndRecords = k .1 .1 .1 .1 .1 .1 .0 ∙ e .sndRecords;
+            acks = k .1 .1 .1 .1 .1 .1 .1 .1 .0 ∙ e .acks;
+            buf = k .1 .1 .1 .1 .1 .1 .1 .1 .1 .1 .0 ∙ e .buf;
           },
         ),
       ),
@@ -89,6 +93,12 @@ same-length-4 c = omega arith
 
 same-length-5 : tie.Need-same-length-5 Inv-loop μ-loop
 same-length-5 c = omega arith
+
+same-length-6 : tie.Need-same-length-6 Inv-loop μ-loop
+same-length-6 c = omega arith
+
+same-length-7 : tie.Need-same-length-7 Inv-loop μ-loop
+same-length-7 c = omega arith
 
 returns : tie.Need-returns Inv-loop μ-loop
 returns c = search needs
@@ -113,4 +123,6 @@ run-spec =
     same-length-3
     same-length-4
     same-length-5
+    same-length-6
+    same-length-7
     returns)

@@ -31,7 +31,7 @@ shared-slice-read-t14 : tie.Need-shared-slice-read-t14
 shared-slice-read-t14 c = search needs
 
 returns : tie.Need-returns
-returns c = rw (c .before .wide .ensures)
+returns c = rw (c .before .wide .ensures .0)
 
 pub answer-at-spec : {M : Type 1} → statement M
 answer-at-spec =
