@@ -81,7 +81,8 @@ build_port() {
     [ ! -f "$library" ] || newer=$(find "$root/crates" "$root/crates.txt" -newer "$library" -type f | head -n 1)
     if [ ! -f "$library" ] || [ -n "$newer" ]; then
         [ ! -t 2 ] || printf '\r\033[Kbuilding the port ..' >&2
-        "$root/build" >"$build/port.log" 2>&1 || { cat "$build/port.log" >&2 && stop "the port did not build"; }
+        mkdir -p "$build"
+        "$root/build" >"$build/port.log" 2>&1 || { cat "$build/port.log" >&2; stop "the port did not build"; }
         [ ! -t 2 ] || printf '\r\033[K' >&2
     fi
     KCP_C=$root/target/staticlib
