@@ -1,0 +1,4 @@
+pub mod Sequences
+pub mod Records
+pub mod Places
+pub mod Counting
