@@ -1,3 +1,4 @@
+pub mod Lists
 pub mod Sequences
 pub mod Records
 pub mod Places

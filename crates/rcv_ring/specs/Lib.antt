@@ -1,0 +1,5 @@
+pub mod Words
+pub mod Places
+pub mod Moves
+pub mod Views
+pub mod Examples
