@@ -1,0 +1,4 @@
+pub mod Marks
+pub mod Store
+pub mod Steps
+pub mod Examples
