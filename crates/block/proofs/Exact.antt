@@ -1,17 +1,19 @@
 -- Each test of Sizes and WellFormed is true exactly when the record of facts beside it holds. Assumes nothing.
-use Prim.Native.Nat.{ℕ, _+_, _*_, _≤_}
+use Prim.Native.Nat.{ℕ, _+_, _*_, _≤_, _<_}
 use mathlib.Core.Path.{_≡_, refl}
 use mathlib.Core.Bool.{Bool, true, false, _&&_, _||_}
 use mathlib.Core.Logic.{_⊎_, inl, inr, ⊎-elim}
 use native.Mathlib.Omega.{arith}
-use lib.Dec.{leb, eqb}
-use borrow.Author.Tests.{leb-true, le-leb, eqb-true, eq-eqb}
+use lib.Dec.{leb, ltb, eqb}
+use borrow.Author.Tests.{leb-true, le-leb, ltb-true, lt-ltb, eqb-true, eq-eqb}
 use Rattle.block.specs.declared.settings.Settings.{Settings}
 use Rattle.block.specs.declared.probe.Probe.{Probe}
 use Rattle.block.specs.declared.receiver.Receiver.{Receiver}
+use Rattle.block.specs.declared.acklist.AckList.{AckList}
+use Rattle.block.specs.declared.sender.Sender.{Sender}
 use Rattle.block.specs.declared.Kcp.{Kcp}
-use Rattle.block.specs.Sizes.{within, Within, mssOf, pairs, poolSizes, PoolSizes, ackSizes, AckSizes}
-use Rattle.block.specs.WellFormed.{settingsFit, SettingsFit, probeFits, ProbeFits, receiverFits, ReceiverFits, ownNumbers, OwnNumbers, wellFormed, WellFormed}
+use Rattle.block.specs.Sizes.{within, Within, mssOf, pairs, ringSizes, RingSizes, ackSizes, AckSizes}
+use Rattle.block.specs.WellFormed.{settingsFit, SettingsFit, probeFits, ProbeFits, receiverFits, ReceiverFits, senderFits, SenderFits, acklistFits, AckListFits, ownNumbers, OwnNumbers, receiveNumbers, ReceiveNumbers, sendNumbers, SendNumbers}
 
 -- the test t is true exactly when P holds
 pub record Exactly (t : Bool) (P : Type 0) : Type 0 where
@@ -20,6 +22,9 @@ pub record Exactly (t : Bool) (P : Type 0) : Type 0 where
 
 pub exactly-le : (a b : ℕ) → Exactly (leb a b) (a ≤ b)
 exactly-le a b = record { holds = leb-true a b; tests = le-leb a b }
+
+pub exactly-lt : (a b : ℕ) → Exactly (ltb a b) (a < b)
+exactly-lt a b = record { holds = ltb-true a b; tests = lt-ltb a b }
 
 pub exactly-eq : (a b : ℕ) → Exactly (eqb a b) (a ≡ b)
 exactly-eq a b = record { holds = eqb-true a b; tests = eq-eqb a b }
@@ -42,12 +47,12 @@ pub exactly-within : (least x most : ℕ) → Exactly (within least x most) (Wit
 exactly-within least x most =
     exactly-as (λ p. record { low = p .0; high = p .1 }) (λ w. (w .low, w .high)) (exactly-both (exactly-le least x) (exactly-le x most))
 
-pub pool-sizes : (least most width order records room : ℕ) → Exactly (poolSizes least most width order records room) (PoolSizes least most width order records room)
-pool-sizes least most width order records room =
+pub ring-sizes : (least most slots width records room : ℕ) → Exactly (ringSizes least most slots width records room) (RingSizes least most slots width records room)
+ring-sizes least most slots width records room =
     exactly-as
-    (λ p. record { slots = p .0; recorded = p .1 .0; roomy = p .1 .1 })
-    (λ w. (w .slots, (w .recorded, w .roomy)))
-    (exactly-both (exactly-within least order most) (exactly-both (exactly-eq records (width * order)) (exactly-eq room (1476 * order))))
+    (λ p. record { few = p .0; recorded = p .1 .0; roomy = p .1 .1 })
+    (λ w. (w .few, (w .recorded, w .roomy)))
+    (exactly-both (exactly-within least slots most) (exactly-both (exactly-eq records (width * slots)) (exactly-eq room (1476 * slots))))
 
 pub ack-sizes : (acks waiting : ℕ) → Exactly (ackSizes acks waiting) (AckSizes acks waiting)
 ack-sizes acks waiting =
@@ -72,22 +77,42 @@ pub receiver-fits : (r : Receiver) → Exactly (receiverFits r) (ReceiverFits r)
 unfolding receiverFits
 receiver-fits r =
     exactly-as
-    (λ p. record { window = p .0; queue = p .1 .0; buffer = p .1 .1 })
-    (λ w. (w .window, (w .queue, w .buffer)))
-    (exactly-both (exactly-within 128 (r .«rcv_wnd») (r .largest)) (exactly-both (exactly-le (r .queued) (r .largest)) (exactly-le (r .held) (r .largest))))
+    (λ p. record { window = p .0; queue = p .1 .0 .0; buffer = p .1 .0 .1; most = p .1 .1 .0; start = p .1 .1 .1 })
+    (λ w. (w .window, ((w .queue, w .buffer), (w .most, w .start))))
+    (exactly-both (exactly-within 128 (r .«rcv_wnd») (r .largest))
+    (exactly-both (exactly-both (exactly-le (r .ring .queued) (r .largest)) (exactly-le (r .ring .reach) (r .largest)))
+    (exactly-both (exactly-le (r .largest) 512) (exactly-lt (r .ring .start) 1024))))
+
+pub sender-fits : (s : Sender) → Exactly (senderFits s) (SenderFits s)
+unfolding senderFits
+sender-fits s =
+    exactly-as
+    (λ p. record { used = p .0; gaps = p .1 .0 .0; front = p .1 .0 .1; start = p .1 .1 })
+    (λ w. (w .used, ((w .gaps, w .front), w .start)))
+    (exactly-both (exactly-le (s .ring .reach + s .ring .unsent) 1024)
+    (exactly-both (exactly-both (exactly-le (s .ring .flying) (s .ring .reach)) (exactly-either (exactly-eq (s .ring .reach) 0) (exactly-lt 0 (s .ring .flying))))
+    (exactly-lt (s .ring .start) 1024)))
+
+pub acklist-fits : (a : AckList) → Exactly (acklistFits a) (AckListFits a)
+unfolding acklistFits
+acklist-fits a =
+    exactly-as (λ p. record { acks = p .0; waiting = p .1 }) (λ w. (w .acks, w .waiting)) (exactly-both (exactly-le (a .acks) 4096) (exactly-le (a .waiting) 1500))
 
 pub own-numbers : (k : Kcp) → Exactly (ownNumbers k) (OwnNumbers k)
 unfolding ownNumbers
 own-numbers k =
     exactly-as
-    (λ p. record { settings = p .0; probe = p .1 .0; receiver = p .1 .1 .0; waiting = p .1 .1 .1 })
-    (λ w. (w .settings, (w .probe, (w .receiver, w .waiting))))
-    (exactly-both (settings-fit (k .settings)) (exactly-both (probe-fits (k .probe)) (exactly-both (receiver-fits (k .receiver)) (exactly-le (k .acklist .waiting) 1500))))
+    (λ p. record { settings = p .0 .0; probe = p .0 .1; receiver = p .1 .0 .0; sender = p .1 .0 .1; acklist = p .1 .1 })
+    (λ w. ((w .settings, w .probe), ((w .receiver, w .sender), w .acklist)))
+    (exactly-both (exactly-both (settings-fit (k .settings)) (probe-fits (k .probe)))
+    (exactly-both (exactly-both (receiver-fits (k .receiver)) (sender-fits (k .sender))) (acklist-fits (k .acklist))))
 
-pub well-formed : (R P A : ℕ) (k : Kcp) → Exactly (wellFormed R P A k) (WellFormed R P A k)
-unfolding wellFormed
-well-formed R P A k =
-    exactly-as
-    (λ p. record { own = p .0; receive = p .1 .0; send = p .1 .1 .0; acks = p .1 .1 .1 })
-    (λ w. (w .own, (w .receive, (w .send, w .acks))))
-    (exactly-both (own-numbers k) (exactly-both (exactly-le (2 * k .receiver .largest) R) (exactly-both (exactly-le (k .sender .flying + k .sender .unsent) P) (exactly-le (k .acklist .acks) A))))
+-- ---- beside lent sizes
+
+pub receive-numbers : (slots : ℕ) (r : Receiver) → Exactly (receiveNumbers slots r) (ReceiveNumbers slots r)
+receive-numbers slots r =
+    exactly-as (λ p. record { start = p .0; twice = p .1 }) (λ w. (w .start, w .twice)) (exactly-both (exactly-lt (r .ring .start) slots) (exactly-le (2 * r .largest) slots))
+
+pub send-numbers : (slots : ℕ) (s : Sender) → Exactly (sendNumbers slots s) (SendNumbers slots s)
+send-numbers slots s =
+    exactly-as (λ p. record { start = p .0; used = p .1 }) (λ w. (w .start, w .used)) (exactly-both (exactly-lt (s .ring .start) slots) (exactly-le (s .ring .reach + s .ring .unsent) slots))

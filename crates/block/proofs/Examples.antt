@@ -1,7 +1,7 @@
 -- Definitions of this crate on closed cases, as one table under one statement. Assumes nothing.
 use Prim.Native.Nat.{ℕ}
 use mathlib.Core.Path.{_≡_, refl}
-use mathlib.Core.Bool.{Bool, true, false}
+use mathlib.Core.Bool.{Bool, true, false, _&&_}
 use mathlib.Core.List.{List, [], _∷_, _++_, map}
 use lib.IntN.{ℤ, pos, negsuc}
 use Rattle.serial.specs.Branch.{pick}
@@ -13,7 +13,7 @@ use Rattle.block.specs.Refusals.{numberOfAnswer, valuesOfAnswer}
 use Rattle.block.specs.Parts.{withProbe, withReceiver}
 use Rattle.block.specs.Sizes.{receiveSizes, sendSizes, ackSizes}
 use Rattle.block.specs.Fresh.{fresh, freshPlain}
-use Rattle.block.specs.WellFormed.{settingsFit, probeFits, receiverFits, ownNumbers, wellFormed}
+use Rattle.block.specs.WellFormed.{settingsFit, probeFits, receiverFits, senderFits, acklistFits, ownNumbers, receiveNumbers}
 use Rattle.block.specs.Setters.{setMtu, setInterval, setNodelay, setFastResend, intervalOf, intervalOfSigned, resendOf, minrtoOf}
 
 pub record Row : Type 0 where
@@ -42,12 +42,13 @@ nodelay nd interval resend = told (setNodelay (setFastResend (freshPlain 7) 3) n
     told k = k .clock .interval ∷ k .clock .«ts_flush» ∷ k .settings .fastresend ∷ k .estimator .minrto ∷ k .estimator .rto ∷ []
 
 waits : ℕ → List ℕ
-waits n = bit (wellFormed 256 128 128 (withProbe (freshPlain 7) (record { bits = 0; «ts_probe» = 0; «probe_wait» = n }))) ∷ []
+waits n = bit (ownNumbers (withProbe (freshPlain 7) (record { bits = 0; «ts_probe» = 0; «probe_wait» = n }))) ∷ []
 
 -- a block with this window, the largest yet set, and so many queued, beside R slots
 windows : ℕ → ℕ → ℕ → ℕ → List ℕ
 windows R wnd largest queued =
-    bit (wellFormed R 128 128 (withReceiver (freshPlain 7) (record { «rcv_nxt» = 0; «rcv_wnd» = wnd; largest = largest; queued = queued; held = 0 }))) ∷ []
+    let r : Receiver = record { «rcv_nxt» = 0; «rcv_wnd» = wnd; largest = largest; ring = record { start = 0; queued = queued; reach = 0 } } in
+    bit (ownNumbers (withReceiver (freshPlain 7) r) && receiveNumbers R r) ∷ []
 
 pub table : List Row
 table =
@@ -61,17 +62,17 @@ table =
     ∷ row (nodelay false (pos 5001) (pos 0)) (5000 ∷ 100 ∷ 0 ∷ 100 ∷ 200 ∷ [])
     ∷ row (map intervalOf (9 ∷ 10 ∷ 5000 ∷ 5001 ∷ [])) (10 ∷ 10 ∷ 5000 ∷ 5000 ∷ [])
     -- "Receive pool R: 256 to 1,024 slots. Send pool P: 128 to 1,024 slots. Ack list A: 128 to 4,096 pairs"
-    ∷ row (map (λ (n : ℕ). bit (receiveSizes n 512 377856)) (255 ∷ 256 ∷ [])) (0 ∷ 1 ∷ [])
-    ∷ row (map (λ (n : ℕ). bit (receiveSizes n 2050 1512900)) (1024 ∷ 1025 ∷ [])) (0 ∷ 0 ∷ [])
-    ∷ row (bit (sendSizes 128 1024 188928) ∷ bit (sendSizes 128 1023 188928) ∷ []) (1 ∷ 0 ∷ [])
+    ∷ row (bit (receiveSizes 255 376380) ∷ bit (receiveSizes 256 377856) ∷ bit (receiveSizes 256 377855) ∷ []) (0 ∷ 1 ∷ 0 ∷ [])
+    ∷ row (bit (receiveSizes 1024 1511424) ∷ bit (receiveSizes 1025 1512900) ∷ []) (1 ∷ 0 ∷ [])
+    ∷ row (bit (sendSizes 1152 188928) ∷ bit (sendSizes 1153 188928) ∷ bit (sendSizes 1143 187452) ∷ bit (sendSizes 9225 1512900) ∷ []) (1 ∷ 0 ∷ 0 ∷ 0 ∷ [])
     ∷ row (map (λ (n : ℕ). bit (ackSizes n 1500)) (255 ∷ 256 ∷ 257 ∷ 8192 ∷ 8194 ∷ [])) (0 ∷ 1 ∷ 0 ∷ 1 ∷ 0 ∷ [])
     -- "probe_wait 0 or 7,000 to 120,000"
     ∷ row (waits 0 ++ waits 6999 ++ waits 7000 ++ waits 120000 ++ waits 120001) (1 ∷ 0 ∷ 1 ∷ 1 ∷ 0 ∷ [])
     -- "twice the largest window at most R, and rcv_wnd from 128 to that window", "queue .. at most the largest window"
     ∷ row (windows 256 128 128 128 ++ windows 256 128 128 129 ++ windows 256 127 128 0 ++ windows 256 129 128 0) (1 ∷ 0 ∷ 0 ∷ 0 ∷ [])
-    ∷ row (windows 256 128 129 0 ++ windows 258 129 129 0) (0 ∷ 1 ∷ [])
+    ∷ row (windows 256 128 129 0 ++ windows 258 129 129 0 ++ windows 1026 512 512 512 ++ windows 1026 513 513 0) (0 ∷ 1 ∷ 1 ∷ 0 ∷ [])
     ∷ []
 
 pub worked : map (λ (r : Row). r .gives) table ≡ map (λ (r : Row). r .says) table
-unfolding row bit mtu nodelay waits windows table pick fresh settingsFit probeFits receiverFits ownNumbers wellFormed setMtu intervalOf intervalOfSigned resendOf minrtoOf
+unfolding row bit mtu nodelay waits windows table pick fresh settingsFit probeFits receiverFits senderFits acklistFits ownNumbers setMtu intervalOf intervalOfSigned resendOf minrtoOf
 worked = refl

@@ -17,8 +17,8 @@ use Rattle.block.specs.Setters.{setMtu, MtuSet}
 
 -- the answers of the five calls that test the lent sizes, put together
 pub sized : (m : Lent) {r s a u t : Bool}
-    → r ≡ receiveSizes (length (m .rcvOrder)) (length (m .rcvRecords)) (length (m .rcvRoom))
-    → s ≡ sendSizes (length (m .sndOrder)) (length (m .sndRecords)) (length (m .sndRoom))
+    → r ≡ receiveSizes (length (m .rcv .records)) (length (m .rcv .room))
+    → s ≡ sendSizes (length (m .snd .records)) (length (m .snd .room))
     → a ≡ ackSizes (length (m .acks)) (length (m .waiting))
     → u ≡ (r && s) → t ≡ (u && a) → lentSizes m ≡ t
 unfolding lentSizes

@@ -8,6 +8,7 @@ use mathlib.Core.List.{List, []}
 use lib.ListN.{length}
 use Rattle.serial.specs.Branch.{pick}
 use Rattle.estimator.specs.Estimate as estimate
+use Rattle.ring.specs.Lists.{Lists}
 use Rattle.block.specs.declared.settings.Settings.{Settings}
 use Rattle.block.specs.declared.clock.Clock.{Clock}
 use Rattle.block.specs.declared.congestion.Congestion.{Congestion}
@@ -40,14 +41,14 @@ freshProbe = record { bits = 0; «ts_probe» = 0; «probe_wait» = 0 }
 
 -- "rcv_wnd 128"; "leaves every slot free"
 abbrev pub freshReceiver : Receiver
-freshReceiver = record { «rcv_nxt» = 0; «rcv_wnd» = 128; largest = 128; queued = 0; held = 0 }
+freshReceiver = record { «rcv_nxt» = 0; «rcv_wnd» = 128; largest = 128; ring = record { start = 0; queued = 0; reach = 0 } }
 
 -- "and the ack list empty"
 abbrev pub freshAckList : AckList
 freshAckList = record { acks = 0; waiting = 0 }
 
 abbrev pub freshSender : Sender
-freshSender = record { «snd_una» = 0; «snd_nxt» = 0; flying = 0; unsent = 0; xmit = 0; dead = false }
+freshSender = record { «snd_una» = 0; «snd_nxt» = 0; ring = record { start = 0; reach = 0; flying = 0; unsent = 0 }; xmit = 0; dead = false }
 
 -- a fresh block of this conversation, a stream or plain, that flushes at this interval
 unfoldable pub fresh : ℕ → Bool → ℕ → Kcp
@@ -70,22 +71,18 @@ freshPlain conv = fresh conv false 100
 abbrev pub freshStream : ℕ → Kcp
 freshStream conv = fresh conv true 100
 
--- the memory lent to a constructor: the receive pool, the send pool, the ack memory
+-- the memory lent to a constructor: that of the receive side, of the send side, and the ack memory
 pub record Lent : Type 0 where
-  pub rcvOrder : List ℕ
-  pub rcvRecords : List ℕ
-  pub rcvRoom : List ℕ
-  pub sndOrder : List ℕ
-  pub sndRecords : List ℕ
-  pub sndRoom : List ℕ
+  pub rcv : Lists
+  pub snd : Lists
   pub acks : List ℕ
   pub waiting : List ℕ
 
 -- "Making a block is handed all three, whose old contents are no fault"
 unfoldable pub lentSizes : Lent → Bool
 lentSizes m =
-    receiveSizes (length (m .rcvOrder)) (length (m .rcvRecords)) (length (m .rcvRoom))
-    && sendSizes (length (m .sndOrder)) (length (m .sndRecords)) (length (m .sndRoom))
+    receiveSizes (length (m .rcv .records)) (length (m .rcv .room))
+    && sendSizes (length (m .snd .records)) (length (m .snd .room))
     && ackSizes (length (m .acks)) (length (m .waiting))
 
 -- "a size outside the limits gives 15 there too"

@@ -10,6 +10,8 @@ use Rattle.block.specs.declared.receiver.Receiver.{Receiver}
 use Rattle.block.specs.declared.acklist.AckList.{AckList}
 use Rattle.block.specs.declared.sender.Sender.{Sender}
 use Rattle.block.specs.declared.Kcp.{Kcp}
+use Rattle.rcv_ring.specs.declared.RcvRing.{RcvRing}
+use Rattle.snd_ring.specs.declared.SndRing.{SndRing}
 
 -- ---- a part of the block
 
@@ -76,3 +78,12 @@ withInterval c x = record { current = c .current; interval = x; «ts_flush» = c
 
 abbrev pub withMinrto : Estimator → ℕ → Estimator
 withMinrto e x = record { srtt = e .srtt; rttval = e .rttval; rto = e .rto; minrto = x }
+
+abbrev pub withRcvRing : Receiver → ℕ → RcvRing → Receiver
+withRcvRing r next ring = record { «rcv_nxt» = next; «rcv_wnd» = r .«rcv_wnd»; largest = r .largest; ring = ring }
+
+abbrev pub withSndRing : Sender → SndRing → Sender
+withSndRing s ring = record { «snd_una» = s .«snd_una»; «snd_nxt» = s .«snd_nxt»; ring = ring; xmit = s .xmit; dead = s .dead }
+
+abbrev pub withUna : Sender → ℕ → Sender
+withUna s una = record { «snd_una» = una; «snd_nxt» = s .«snd_nxt»; ring = s .ring; xmit = s .xmit; dead = s .dead }

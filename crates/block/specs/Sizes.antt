@@ -1,6 +1,6 @@
 -- "Payload slot: 1,476 bytes. mtu: 50 to 1,500; mss = mtu − 24. Receive pool R: 256 to 1,024 slots. Send pool P: 128 to 1,024 slots.
 -- Ack list A: 128 to 4,096 pairs. R, P, A are the lent sizes".
--- A pool is an order of one number for each slot, records of so many numbers, and room; the ack memory is pairs and the bytes that wait.
+-- Each side is lent records, so many numbers for each slot, and room; the ack memory is pairs and the bytes that wait.
 -- Assumes nothing.
 use Prim.Native.Nat.{ℕ, _+_, _-_, _*_, _/_, _≤_}
 use mathlib.Core.Path.{_≡_}
@@ -23,23 +23,26 @@ mtuSize mtu = within 50 mtu 1500
 abbrev pub mssOf : ℕ → ℕ
 mssOf mtu = mtu - 24
 
--- a pool of least to most slots, with records of `width` numbers; "Payload slot: 1,476 bytes"
-abbrev pub poolSizes : ℕ → ℕ → ℕ → ℕ → ℕ → ℕ → Bool
-poolSizes least most width order records room =
-    within least order most && (eqb records (width * order) && eqb room (1476 * order))
+-- least to most slots, with records of `width` numbers; "Payload slot: 1,476 bytes"
+abbrev pub ringSizes : ℕ → ℕ → ℕ → ℕ → ℕ → ℕ → Bool
+ringSizes least most slots width records room =
+    within least slots most && (eqb records (width * slots) && eqb room (1476 * slots))
 
-pub record PoolSizes (least most width order records room : ℕ) : Type 0 where
-  pub slots : Within least order most
-  pub recorded : records ≡ width * order
-  pub roomy : room ≡ 1476 * order
+pub record RingSizes (least most slots width records room : ℕ) : Type 0 where
+  pub few : Within least slots most
+  pub recorded : records ≡ width * slots
+  pub roomy : room ≡ 1476 * slots
 
--- "Receive pool R: 256 to 1,024 slots"
-abbrev pub receiveSizes : ℕ → ℕ → ℕ → Bool
-receiveSizes order records room = poolSizes 256 1024 2 order records room
+-- "Receive pool R: 256 to 1,024 slots": one number for each
+abbrev pub receiveSizes : ℕ → ℕ → Bool
+receiveSizes records room = ringSizes 256 1024 records 1 records room
 
--- "Send pool P: 128 to 1,024 slots"
-abbrev pub sendSizes : ℕ → ℕ → ℕ → Bool
-sendSizes order records room = poolSizes 128 1024 8 order records room
+-- "Send pool P: 128 to 1,024 slots": a mark and eight numbers for each
+abbrev pub sendSlots : ℕ → ℕ
+sendSlots records = records / 9
+
+abbrev pub sendSizes : ℕ → ℕ → Bool
+sendSizes records room = ringSizes 128 1024 (sendSlots records) 9 records room
 
 -- how many pairs a list of so many numbers has
 abbrev pub pairs : ℕ → ℕ

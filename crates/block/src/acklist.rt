@@ -1,8 +1,9 @@
 // How much of the ack memory is in use: the pairs of the ack list, and the bytes that wait.
 ghost use mathlib.Core.Path.{_≡_};
 ghost use Rattle.block.specs.Fresh.{freshAckList};
-ghost use Rattle.block.specs.WellFormed.{waitingFits, ackNumbers};
+ghost use Rattle.block.specs.WellFormed.{acklistFits, ackNumbers};
 use crate::Kcp;
+use crate::both;
 use crate::wide;
 
 pub struct AckList {
@@ -21,11 +22,14 @@ impl AckList {
         }
     }
 
-    // Whether at most 1,500 bytes wait.
-    pub fn waiting_fits(self) -> bool
-        ensures { λ r. ⌜ r ≡ waitingFits self ⌝ }
+    // Whether there are at most 4,096 acks, and at most 1,500 bytes wait.
+    pub fn fits(self) -> bool
+        ensures { λ r. ⌜ r ≡ acklistFits self ⌝ }
     {
-        wide(self.waiting) <= Kcp::WAITING
+        both(
+            wide(self.acks) <= Kcp::ACKS_MOST,
+            wide(self.waiting) <= Kcp::WAITING,
+        )
     }
 
     // Whether the ack list is at most as long as the pairs lent.

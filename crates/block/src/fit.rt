@@ -1,6 +1,6 @@
-// Whether the block is well formed, as far as its numbers go: those that need no lent size, and those that each lent memory adds.
+// Whether the block is well formed, as far as its own numbers go; what each lent memory adds is asked of its part.
 ghost use mathlib.Core.Path.{_≡_};
-ghost use Rattle.block.specs.WellFormed.{ownNumbers, wellFormed};
+ghost use Rattle.block.specs.WellFormed.{ownNumbers};
 use crate::Kcp;
 use crate::both;
 
@@ -13,25 +13,11 @@ impl Kcp {
         let probe = self.probe;
         let receiver = self.receiver;
         let acklist = self.acklist;
-        both(
-            settings.fit(),
-            both(probe.fits(), both(receiver.fits(), acklist.waiting_fits())),
-        )
-    }
-
-    // Whether the block is well formed beside R receive slots, P send slots and A pairs.
-    pub fn well_formed(self, r: usize, p: usize, a: usize) -> bool
-        ensures { λ t. ⌜ t ≡ wellFormed r p a self ⌝ }
-    {
-        let receiver = self.receiver;
         let sender = self.sender;
-        let acklist = self.acklist;
+        let sides = both(receiver.fits(), sender.fits());
         both(
-            self.own_numbers(),
-            both(
-                receiver.receive_numbers(r),
-                both(sender.send_numbers(p), acklist.ack_numbers(a)),
-            ),
+            both(settings.fit(), probe.fits()),
+            both(sides, acklist.fits()),
         )
     }
 }

@@ -56,7 +56,7 @@ impl Kcp {
 
     // How many segments are in flight or wait to be sent.
     pub fn wait_snd(self) -> usize
-        ensures { λ r. ⌜ r ≡ self .sender .flying + self .sender .unsent ⌝ }
+        ensures { λ r. ⌜ r ≡ self .sender .ring .flying + self .sender .ring .unsent ⌝ }
     {
         let sender = self.sender;
         sender.segments()

@@ -2,7 +2,7 @@
 // setters and getters that are handed no pool.
 ghost use mathlib.Core.Path.{_≡_};
 ghost use Prim.Native.Nat.{_<_, _^_};
-ghost use mathlib.Core.Bool.{_&&_};
+ghost use mathlib.Core.Bool.{_&&_, _||_};
 use acklist::AckList;
 use clock::Clock;
 use congestion::Congestion;
@@ -55,6 +55,9 @@ impl Kcp {
 
     pub const WND_RCV: u16 = 128;
 
+    // The largest receive window that any lent memory bears.
+    pub const WND_MOST: usize = 512;
+
     pub const THRESH_INIT: u16 = 2;
 
     pub const THRESH_MIN: u16 = 2;
@@ -93,9 +96,9 @@ impl Kcp {
 
     pub const SLOTS_MOST: usize = 1024;
 
-    pub const RCV_RECORD: usize = 2;
+    pub const RCV_RECORD: usize = 1;
 
-    pub const SND_RECORD: usize = 8;
+    pub const SND_RECORD: usize = 9;
 
     pub const ACKS_LEAST: usize = 128;
 
@@ -128,4 +131,11 @@ fn both(a: bool, b: bool) -> bool
     ensures { λ r. ⌜ r ≡ (a && b) ⌝ }
 {
     if a { b } else { false }
+}
+
+// Whether one of the two holds.
+fn either(a: bool, b: bool) -> bool
+    ensures { λ r. ⌜ r ≡ (a || b) ⌝ }
+{
+    if a { true } else { b }
 }

@@ -1,5 +1,6 @@
 // The constructors: a fresh block, plain or stream.
 ghost use mathlib.Core.Path.{_≡_};
+ghost use Rattle.ring.specs.Lists.{lists};
 ghost use Rattle.block.specs.Fresh.{Lent, fresh, freshPlain, freshStream, Makes};
 use crate::Kcp;
 use crate::acklist::AckList;
@@ -44,19 +45,17 @@ impl Kcp {
         conv: u32,
         stream: bool,
         interval: u32,
-        rcv_order: &[u32],
         rcv_records: &[u32],
         rcv_room: &[u8],
-        snd_order: &[u32],
         snd_records: &[u32],
         snd_room: &[u8],
         acks: &[u32],
         waiting: &[u8],
     ) -> Made
-        ensures { λ r. ⌜ Makes (record { rcvOrder = now («rcv_order» .entry); rcvRecords = now («rcv_records» .entry); rcvRoom = now («rcv_room» .entry); sndOrder = now («snd_order» .entry); sndRecords = now («snd_records» .entry); sndRoom = now («snd_room» .entry); acks = now (acks .entry); waiting = now (waiting .entry) }) (fresh conv stream interval) r ⌝ }
+        ensures { λ r. ⌜ Makes (record { rcv = lists (now («rcv_records» .entry)) (now («rcv_room» .entry)); snd = lists (now («snd_records» .entry)) (now («snd_room» .entry)); acks = now (acks .entry); waiting = now (waiting .entry) }) (fresh conv stream interval) r ⌝ }
     {
-        let receive = receive_sizes(rcv_order.len(), rcv_records.len(), rcv_room.len());
-        let send = send_sizes(snd_order.len(), snd_records.len(), snd_room.len());
+        let receive = receive_sizes(rcv_records.len(), rcv_room.len());
+        let send = send_sizes(snd_records.len(), snd_room.len());
         let list = ack_sizes(acks.len(), waiting.len());
         if both(both(receive, send), list) {
             return Made::Block {
@@ -71,25 +70,21 @@ impl Kcp {
     // A fresh block that keeps messages apart.
     pub fn new(
         conv: u32,
-        rcv_order: &[u32],
         rcv_records: &[u32],
         rcv_room: &[u8],
-        snd_order: &[u32],
         snd_records: &[u32],
         snd_room: &[u8],
         acks: &[u32],
         waiting: &[u8],
     ) -> Made
-        ensures { λ r. ⌜ Makes (record { rcvOrder = now («rcv_order» .entry); rcvRecords = now («rcv_records» .entry); rcvRoom = now («rcv_room» .entry); sndOrder = now («snd_order» .entry); sndRecords = now («snd_records» .entry); sndRoom = now («snd_room» .entry); acks = now (acks .entry); waiting = now (waiting .entry) }) (freshPlain conv) r ⌝ }
+        ensures { λ r. ⌜ Makes (record { rcv = lists (now («rcv_records» .entry)) (now («rcv_room» .entry)); snd = lists (now («snd_records» .entry)) (now («snd_room» .entry)); acks = now (acks .entry); waiting = now (waiting .entry) }) (freshPlain conv) r ⌝ }
     {
         Kcp::make(
             conv,
             false,
             Kcp::INTERVAL,
-            rcv_order,
             rcv_records,
             rcv_room,
-            snd_order,
             snd_records,
             snd_room,
             acks,
@@ -100,25 +95,21 @@ impl Kcp {
     // A fresh block that carries a stream of bytes.
     pub fn new_stream(
         conv: u32,
-        rcv_order: &[u32],
         rcv_records: &[u32],
         rcv_room: &[u8],
-        snd_order: &[u32],
         snd_records: &[u32],
         snd_room: &[u8],
         acks: &[u32],
         waiting: &[u8],
     ) -> Made
-        ensures { λ r. ⌜ Makes (record { rcvOrder = now («rcv_order» .entry); rcvRecords = now («rcv_records» .entry); rcvRoom = now («rcv_room» .entry); sndOrder = now («snd_order» .entry); sndRecords = now («snd_records» .entry); sndRoom = now («snd_room» .entry); acks = now (acks .entry); waiting = now (waiting .entry) }) (freshStream conv) r ⌝ }
+        ensures { λ r. ⌜ Makes (record { rcv = lists (now («rcv_records» .entry)) (now («rcv_room» .entry)); snd = lists (now («snd_records» .entry)) (now («snd_room» .entry)); acks = now (acks .entry); waiting = now (waiting .entry) }) (freshStream conv) r ⌝ }
     {
         Kcp::make(
             conv,
             true,
             Kcp::INTERVAL,
-            rcv_order,
             rcv_records,
             rcv_room,
-            snd_order,
             snd_records,
             snd_room,
             acks,

@@ -1,7 +1,7 @@
-// The tests of lent sizes. A pool is an order of one number for each slot, records of a fixed count of numbers, and room for payloads.
+// The tests of lent sizes. Each side is lent records, a fixed count of numbers for each slot, and room for payloads.
 ghost use mathlib.Core.Path.{_≡_};
 ghost use Prim.Native.Nat.{_≤_};
-ghost use Rattle.block.specs.Sizes.{within, poolSizes, receiveSizes, sendSizes, ackSizes};
+ghost use Rattle.block.specs.Sizes.{within, ringSizes, receiveSizes, sendSizes, ackSizes};
 use crate::Kcp;
 use crate::both;
 
@@ -12,29 +12,35 @@ pub fn within(least: usize, x: usize, most: usize) -> bool
     both(least <= x, x <= most)
 }
 
-// Whether these are the lengths of a pool of `least` to 1,024 slots, with records of `width` numbers.
-fn pool_sizes(least: usize, width: usize, order: usize, records: usize, room: usize) -> bool
-    requires { ⌜ width ≤ 8 ⌝ }
-    ensures { λ r. ⌜ r ≡ poolSizes least 1024 width order records room ⌝ }
+// Whether these are the lengths of a ring's memory, of `least` to 1,024 slots.
+fn ring_sizes(least: usize, slots: usize, width: usize, records: usize, room: usize) -> bool
+    requires { ⌜ width ≤ 9 ⌝ }
+    ensures { λ r. ⌜ r ≡ ringSizes least 1024 slots width records room ⌝ }
 {
-    if within(least, order, Kcp::SLOTS_MOST) {
-        return both(records == width * order, room == Kcp::ROOM * order);
+    if within(least, slots, Kcp::SLOTS_MOST) {
+        return both(records == width * slots, room == Kcp::ROOM * slots);
     }
     false
 }
 
-// Whether these are the lengths of a receive pool within the limits.
-pub fn receive_sizes(order: usize, records: usize, room: usize) -> bool
-    ensures { λ r. ⌜ r ≡ receiveSizes order records room ⌝ }
+// Whether these are the lengths of a receive ring's memory within the limits.
+pub fn receive_sizes(records: usize, room: usize) -> bool
+    ensures { λ r. ⌜ r ≡ receiveSizes records room ⌝ }
 {
-    pool_sizes(Kcp::RCV_LEAST, Kcp::RCV_RECORD, order, records, room)
+    ring_sizes(Kcp::RCV_LEAST, records, Kcp::RCV_RECORD, records, room)
 }
 
-// Whether these are the lengths of a send pool within the limits.
-pub fn send_sizes(order: usize, records: usize, room: usize) -> bool
-    ensures { λ r. ⌜ r ≡ sendSizes order records room ⌝ }
+// Whether these are the lengths of a send ring's memory within the limits.
+pub fn send_sizes(records: usize, room: usize) -> bool
+    ensures { λ r. ⌜ r ≡ sendSizes records room ⌝ }
 {
-    pool_sizes(Kcp::SND_LEAST, Kcp::SND_RECORD, order, records, room)
+    ring_sizes(
+        Kcp::SND_LEAST,
+        records / Kcp::SND_RECORD,
+        Kcp::SND_RECORD,
+        records,
+        room,
+    )
 }
 
 // Whether these are the lengths of an ack memory within the limits: whole pairs, and the bytes that may wait.

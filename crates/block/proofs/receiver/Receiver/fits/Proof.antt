@@ -1,4 +1,4 @@
--- `block::receiver::Receiver::fits` meets its contract. What the calls ensure, put together. Assumes nothing.
+-- `block::receiver::Receiver::fits` meets its contract. Assumes nothing.
 use Rattle.block.specs.WellFormed.{receiverFits}
 use borrow.Author.Needs.{needs}
 use Rattle.block.proofs.receiver.Receiver.fits.Statement.{statement}
@@ -25,15 +25,21 @@ wide-requires-2 c κs = search needs
 both-requires : tie.Need-both-requires
 both-requires c κs = search needs
 
+wide-requires-3 : tie.Need-wide-requires-3
+wide-requires-3 c κs = search needs
+
 both-requires-2 : tie.Need-both-requires-2
 both-requires-2 c κs = search needs
 
+both-requires-3 : tie.Need-both-requires-3
+both-requires-3 c κs = search needs
+
+both-requires-4 : tie.Need-both-requires-4
+both-requires-4 c κs = search needs
+
 returns : tie.Need-returns
 unfolding receiverFits
-returns c =
-    let s = c .before .before in
-    let w = s .before .before in
-    rw (c .both2 .ensures, c .before .both .ensures, w .within .ensures, s .wide2 .ensures .0, s .before .wide .ensures .0, w .before .wide162 .ensures .0, w .before .before .wide16 .ensures .0)
+returns c = cc
 
 pub fits-spec : {M : Type 1} → statement M
 fits-spec =
@@ -46,5 +52,8 @@ fits-spec =
     wide-requires
     wide-requires-2
     both-requires
+    wide-requires-3
     both-requires-2
+    both-requires-3
+    both-requires-4
     returns)
