@@ -8,12 +8,12 @@ use lib.ListN.{length, length-append, length-take, length-drop, length-map}
 use lib.Dec.{ltb}
 use borrow.Author.Tests.{ltb-true, ltb-false, not-true}
 use Rattle.serial.specs.Window.{distance, inWindow}
-use Rattle.receiving.specs.Rules.{Segment, numbers, marks, Receiving, ready, insert, isHeld, moved, moveBuf, skipped, reached, taken, stored, push, message, Answer, refused, gives, recvAnswer, freed, received, recv, tooLarge, widened, setWindow, fresh, Ordered, WellFormed}
+use Rattle.receiving.specs.Rules.{Segment, numbers, marks, Receiving, ready, insert, isHeld, moved, moveBuf, skipped, reached, taken, stored, push, message, Answer, empty, expecting, longer, gives, recvAnswer, freed, received, recv, tooLarge, widens, widened, setWindow, fresh, Ordered, WellFormed}
 use Rattle.receiving.specs.History.{Event, Small, eventPush, eventRecv, eventMove, eventWindow, leaves, inUse}
 use Rattle.receiving.proofs.Laws.{and-left, and-right, Moves, moves-ready, insert-ordered, insert-length, ordered-wider, ordered-length}
 
 -- a window that passes leaves room for twice itself
-pub small-enough : (slots v : ℕ) → (ltb 0 v && not (tooLarge slots v)) ≡ true → 2 * max v 128 ≤ slots
+pub small-enough : (slots v : ℕ) → widens slots v ≡ true → 2 * max v 128 ≤ slots
 unfolding tooLarge
 small-enough slots v e =
     let positive = and-left (ltb 0 v) (not (tooLarge slots v)) e in
@@ -90,15 +90,17 @@ module _ (slots : ℕ) (r : Receiving) (w : WellFormed slots r) where
 module _ (slots : ℕ) (r : Receiving) (w : WellFormed slots r) where
   pub well-push : (full : Bool) (s : Segment) → s .sn < 2 ^ 32 → WellFormed slots (push full s r)
   unfolding push reached
-  well-push full s small = go (reached full r (s .sn)) refl
+  well-push full s small = go (reached full (r .next) (r .window) s) refl
     where
-      go : (b : Bool) → reached full r (s .sn) ≡ b → WellFormed slots (cond b (moveBuf (stored s r)) r)
-      go true e = well-moved slots (stored s r) (well-stored slots r w s small (and-left (inWindow (r .next) (r .window) (s .sn)) (not (skipped full (r .next) (r .window) (s .sn))) e))
+      go : (b : Bool) → reached full (r .next) (r .window) s ≡ b → WellFormed slots (cond b (moveBuf (stored s r)) r)
+      go true e = well-moved slots (stored s r) (well-stored slots r w s small (and-left (inWindow (r .next) (r .window) (s .sn)) (not (skipped full (r .next) (r .window) s)) e))
       go false e = w
 
   pub well-received : (a : Answer) → WellFormed slots (received a r)
   unfolding received
-  well-received (refused n) = w
+  well-received empty = w
+  well-received expecting = w
+  well-received longer = w
   well-received (gives n) = well-moved slots (freed (message (marks (r .queue))) r) (well-freed slots r w (message (marks (r .queue))))
 
   pub well-event : (c : Event) → Small c → WellFormed slots (leaves slots c r)
@@ -109,12 +111,12 @@ module _ (slots : ℕ) (r : Receiving) (w : WellFormed slots r) where
   well-event (eventWindow v) small = well-window slots r w v
 
   -- no push is turned away for want of a slot
-  pub well-room : (full : Bool) (sn : ℕ) → sn < 2 ^ 32 → taken full r sn ≡ true → inUse r < slots
+  pub well-room : (full : Bool) (s : Segment) → s .sn < 2 ^ 32 → taken full r s ≡ true → inUse r < slots
   unfolding taken reached
-  well-room full sn small t =
-      let both = and-left (reached full r sn) (not (isHeld sn (numbers (r .held)))) t in
-      insert-room slots r w (record { sn = sn; frg = 0; payload = [] }) small (and-left (inWindow (r .next) (r .window) sn) (not (skipped full (r .next) (r .window) sn)) both)
-      (not-true (isHeld sn (numbers (r .held))) (and-right (reached full r sn) (not (isHeld sn (numbers (r .held)))) t))
+  well-room full s small t =
+      let both = and-left (reached full (r .next) (r .window) s) (not (isHeld (s .sn) (numbers (r .held)))) t in
+      insert-room slots r w s small (and-left (inWindow (r .next) (r .window) (s .sn)) (not (skipped full (r .next) (r .window) s)) both)
+      (not-true (isHeld (s .sn) (numbers (r .held))) (and-right (reached full (r .next) (r .window) s) (not (isHeld (s .sn) (numbers (r .held)))) t))
 
 pub well-fresh : (slots : ℕ) → 256 ≤ slots → WellFormed slots fresh
 unfolding fresh

@@ -7,12 +7,12 @@ use mathlib.Core.Bool.{Bool, true, false, cond, _&&_, _||_}
 use mathlib.Core.Option.{Option, none, some}
 use mathlib.Core.List.{List, [], _∷_, _++_}
 use lib.ListN.{length, take, drop, getD}
-use lib.Dec.{ltb, leb, eqb}
-use borrow.Author.Tests.{ltb-true, ltb-false, leb-true, le-leb, eqb-true, eqb-false, eq-eqb, ne-eqb}
+use lib.Dec.{ltb, eqb}
+use borrow.Author.Tests.{ltb-true, ltb-false, eqb-true, eqb-false, eq-eqb, ne-eqb}
 use Rattle.serial.specs.Wrap.{add32}
 use Rattle.serial.specs.Window.{distance}
-use Rattle.lent.specs.Order.{inserted}
-use Rattle.receiving.specs.Rules.{Segment, numbers, nearer, ready, insert, isHeld, rises, Ordered}
+use Rattle.ring.specs.Sequences.{inserted}
+use Rattle.receiving.specs.Rules.{Segment, numbers, nearer, ready, insert, isHeld, Ordered}
 use Rattle.receiving.specs.History.{Taken, placed, first}
 
 pub and-left : (a b : Bool) → (a && b) ≡ true → a ≡ true
@@ -106,21 +106,6 @@ module _ (next hi : ℕ) where
   pub ordered-wider : (lo hi′ : ℕ) (l : List ℕ) → hi ≤ hi′ → Ordered next lo hi l → Ordered next lo hi′ l
   ordered-wider lo hi′ [] h o = omega arith
   ordered-wider lo hi′ (n ∷ l) h o = (o .0, o .1, ordered-wider (suc (distance next n)) hi′ l h (o .2))
-
--- the order as a test
-pub ordered-rises : (next lo hi : ℕ) (l : List ℕ) → Ordered next lo hi l → rises next lo hi l ≡ true
-unfolding rises
-ordered-rises next lo hi [] o = le-leb lo hi o
-ordered-rises next lo hi (n ∷ l) o = rw (le-leb lo (distance next n) (o .0)) (ordered-rises next (suc (distance next n)) hi l (o .2))
-
-pub rises-ordered : (next lo hi : ℕ) (l : List ℕ) → ((i : ℕ) → i < length l → getD l i 0 < 2 ^ 32) → rises next lo hi l ≡ true → Ordered next lo hi l
-unfolding rises
-rises-ordered next lo hi [] small e = leb-true lo hi e
-rises-ordered next lo hi (n ∷ l) small e = (
-  leb-true lo (distance next n) (and-left (leb lo (distance next n)) (rises next (suc (distance next n)) hi l) e),
-  small zero (suc-le-suc zero-le),
-  rises-ordered next (suc (distance next n)) hi l (λ i h. small (suc i) (suc-le-suc h)) (and-right (leb lo (distance next n)) (rises next (suc (distance next n)) hi l) e),
-)
 
 -- ---- held segments move: what is awaited goes on, and every segment keeps its place
 

@@ -8,8 +8,8 @@ use mathlib.Core.List.{List, [], _∷_, _++_, append-assoc, append-nil}
 use lib.ListN.{length, take, drop, length-append, length-take, length-drop, length-map, List·getD-append, take-append-drop}
 use lib.Dec.{ltb}
 use Rattle.serial.specs.Window.{inWindow}
-use Rattle.receiving.specs.Rules.{Segment, numbers, marks, Receiving, ready, insert, isHeld, moved, moveBuf, skipped, reached, taken, stored, push, message, Answer, refused, gives, recvAnswer, given, freed, received, recv, tooLarge, widened, setWindow, fresh, WellFormed}
-use Rattle.receiving.specs.History.{Event, Small, AllSmall, eventPush, eventRecv, eventMove, eventWindow, Taken, placed, first, History, takes, hands, leaves, step, runFrom, begun, inUse, none-segment, distanceAt, Sound}
+use Rattle.receiving.specs.Rules.{Segment, numbers, marks, Receiving, ready, insert, isHeld, moved, moveBuf, skipped, reached, taken, stored, push, message, Answer, empty, expecting, longer, gives, recvAnswer, given, freed, received, recv, tooLarge, widened, setWindow, fresh, WellFormed}
+use Rattle.receiving.specs.History.{Event, Small, AllSmall, eventPush, eventRecv, eventMove, eventWindow, Taken, placed, first, Past, takes, hands, leaves, step, runFrom, begun, inUse, none-segment, distanceAt, Sound}
 use Rattle.receiving.proofs.Laws.{and-left, Numbered, standing, numbered-append, standing-append, numbered-at, standing-at, ordered-length, ordered-high, ordered-rising, Moves, moves-ready, orElse-assoc, first-append, insert-first, insert-length}
 use Rattle.receiving.proofs.Keep.{well-stored, well-freed, well-event, well-room, well-fresh}
 
@@ -18,19 +18,19 @@ unfoldable pub layout : List Segment → ℕ → List Segment → List Taken
 layout done next held = standing 0 done ++ placed (length done) next held
 
 -- what is kept of the pushes taken and the segments handed out
-pub record Told (r : Receiving) (pushes : List Taken) (handed : List Segment) : Type 0 where
+pub record Holds (r : Receiving) (pushes : List Taken) (handed : List Segment) : Type 0 where
   pub awaited : r .next ≡ length (handed ++ r .queue) % 2 ^ 32
   pub numbered : Numbered 0 (handed ++ r .queue)
   pub same : (k : ℕ) → first k pushes ≡ first k (layout (handed ++ r .queue) (r .next) (r .held))
   pub total : length (r .queue) + length (r .held) + length handed ≡ length pushes
 
-module _ (slots : ℕ) (r : Receiving) (pushes : List Taken) (handed : List Segment) (w : WellFormed slots r) (t : Told r pushes handed) where
+module _ (slots : ℕ) (r : Receiving) (pushes : List Taken) (handed : List Segment) (w : WellFormed slots r) (t : Holds r pushes handed) where
   abbrev p : ℕ
   p = length (handed ++ r .queue)
 
-  told-moved : Told (moveBuf r) pushes handed
+  holds-moved : Holds (moveBuf r) pushes handed
   unfolding moveBuf moved layout
-  told-moved = record {
+  holds-moved = record {
     awaited = let a = t .awaited in let s = size in rw (← append-assoc handed (r .queue) (take n (r .held))) (omega arith);
     numbered = rw (← append-assoc handed (r .queue) (take n (r .held))) (numbered-append 0 (handed ++ r .queue) (take n (r .held)) (t .numbered) (rw zero-add (m .numbered)));
     same = λ k. t .same k ∙ ap (first k) (rw (m .places, ← append-assoc handed (r .queue) (take n (r .held)), standing-append 0 (handed ++ r .queue) (take n (r .held)), zero-add, size, append-assoc));
@@ -46,9 +46,9 @@ module _ (slots : ℕ) (r : Receiving) (pushes : List Taken) (handed : List Segm
       size : length (handed ++ r .queue ++ take n (r .held)) ≡ length (handed ++ r .queue) + n
       size = let e = m .enough in rw (length-append, length-take) (omega arith)
 
-  told-freed : (n : ℕ) → Told (freed n r) pushes (handed ++ take n (r .queue))
+  holds-freed : (n : ℕ) → Holds (freed n r) pushes (handed ++ take n (r .queue))
   unfolding freed
-  told-freed n = record {
+  holds-freed n = record {
     awaited = rw together (t .awaited);
     numbered = rw together (t .numbered);
     same = λ k. rw together (t .same k);
@@ -58,70 +58,72 @@ module _ (slots : ℕ) (r : Receiving) (pushes : List Taken) (handed : List Segm
       together : handed ++ take n (r .queue) ++ drop n (r .queue) ≡ handed ++ r .queue
       together = rw (append-assoc, take-append-drop)
 
-  told-joined : (s : Segment) → s .sn < 2 ^ 32 → isHeld (s .sn) (numbers (r .held)) ≡ false → (k : ℕ)
+  holds-joined : (s : Segment) → s .sn < 2 ^ 32 → isHeld (s .sn) (numbers (r .held)) ≡ false → (k : ℕ)
       → first k (pushes ++ placed p (r .next) (s ∷ [])) ≡ first k (layout (handed ++ r .queue) (r .next) (insert (r .next) s (r .held)))
   unfolding layout
-  told-joined s small e k =
+  holds-joined s small e k =
       first-append k pushes (placed p (r .next) (s ∷ []))
       ∙ rw (t .same k, first-append, orElse-assoc, first-append, insert-first (r .next) s (w .awaited) small (r .largest) p k 0 (r .held) (w .ordered) e)
 
-  told-stored : (s : Segment) → s .sn < 2 ^ 32 → Told (stored s r) (pushes ++ placed p (r .next) (cond (not (isHeld (s .sn) (numbers (r .held)))) (s ∷ []) [])) handed
+  holds-stored : (s : Segment) → s .sn < 2 ^ 32 → Holds (stored s r) (pushes ++ placed p (r .next) (cond (not (isHeld (s .sn) (numbers (r .held)))) (s ∷ []) [])) handed
   unfolding stored placed
-  told-stored s small = go (isHeld (s .sn) (numbers (r .held))) refl
+  holds-stored s small = go (isHeld (s .sn) (numbers (r .held))) refl
     where
       with-s : Receiving
       with-s = record { next = r .next; window = r .window; largest = r .largest; queue = r .queue; held = insert (r .next) s (r .held) }
 
-      go : (b : Bool) → isHeld (s .sn) (numbers (r .held)) ≡ b → Told (cond b r with-s) (pushes ++ placed p (r .next) (cond (not b) (s ∷ []) [])) handed
+      go : (b : Bool) → isHeld (s .sn) (numbers (r .held)) ≡ b → Holds (cond b r with-s) (pushes ++ placed p (r .next) (cond (not b) (s ∷ []) [])) handed
       go true e = rw append-nil t
       go false e = record {
         awaited = t .awaited;
         numbered = t .numbered;
-        same = told-joined s small e;
+        same = holds-joined s small e;
         total = let a = t .total in let b = insert-length (r .next) s (r .held) in rw length-append (omega arith);
       }
 
-  told-window : (v : ℕ) → Told (setWindow slots v r) pushes handed
+  holds-window : (v : ℕ) → Holds (setWindow slots v r) pushes handed
   unfolding setWindow widened
-  told-window v = go (ltb 0 v && not (tooLarge slots v))
+  holds-window v = go (ltb 0 v && not (tooLarge slots v))
     where
-      go : (b : Bool) → Told (cond b (widened (max v 128) r) r) pushes handed
+      go : (b : Bool) → Holds (cond b (widened (max v 128) r) r) pushes handed
       go true = record { awaited = t .awaited; numbered = t .numbered; same = t .same; total = t .total }
       go false = t
 
-module _ (slots : ℕ) (r : Receiving) (pushes : List Taken) (handed : List Segment) (w : WellFormed slots r) (t : Told r pushes handed) where
-  told-push : (full : Bool) (s : Segment) → s .sn < 2 ^ 32
-      → Told (push full s r) (pushes ++ placed (length (handed ++ r .queue)) (r .next) (cond (taken full r (s .sn)) (s ∷ []) [])) handed
+module _ (slots : ℕ) (r : Receiving) (pushes : List Taken) (handed : List Segment) (w : WellFormed slots r) (t : Holds r pushes handed) where
+  holds-push : (full : Bool) (s : Segment) → s .sn < 2 ^ 32
+      → Holds (push full s r) (pushes ++ placed (length (handed ++ r .queue)) (r .next) (cond (taken full r s) (s ∷ []) [])) handed
   unfolding push taken reached placed
-  told-push full s small = go (reached full r (s .sn)) refl
+  holds-push full s small = go (reached full (r .next) (r .window) s) refl
     where
-      go : (b : Bool) → reached full r (s .sn) ≡ b
-          → Told (cond b (moveBuf (stored s r)) r) (pushes ++ placed (length (handed ++ r .queue)) (r .next) (cond (b && not (isHeld (s .sn) (numbers (r .held)))) (s ∷ []) [])) handed
+      go : (b : Bool) → reached full (r .next) (r .window) s ≡ b
+          → Holds (cond b (moveBuf (stored s r)) r) (pushes ++ placed (length (handed ++ r .queue)) (r .next) (cond (b && not (isHeld (s .sn) (numbers (r .held)))) (s ∷ []) [])) handed
       go true e =
-          told-moved slots (stored s r) (pushes ++ placed (length (handed ++ r .queue)) (r .next) (cond (not (isHeld (s .sn) (numbers (r .held)))) (s ∷ []) [])) handed
-          (well-stored slots r w s small (and-left (inWindow (r .next) (r .window) (s .sn)) (not (skipped full (r .next) (r .window) (s .sn))) e))
-          (told-stored slots r pushes handed w t s small)
+          holds-moved slots (stored s r) (pushes ++ placed (length (handed ++ r .queue)) (r .next) (cond (not (isHeld (s .sn) (numbers (r .held)))) (s ∷ []) [])) handed
+          (well-stored slots r w s small (and-left (inWindow (r .next) (r .window) (s .sn)) (not (skipped full (r .next) (r .window) s)) e))
+          (holds-stored slots r pushes handed w t s small)
       go false e = rw append-nil t
 
-  told-received : (a : Answer) → Told (received a r) pushes (handed ++ take (given a r) (r .queue))
+  holds-received : (a : Answer) → Holds (received a r) pushes (handed ++ take (given a r) (r .queue))
   unfolding received given
-  told-received (refused n) = rw append-nil t
-  told-received (gives n) =
-      told-moved slots (freed (message (marks (r .queue))) r) pushes (handed ++ take (message (marks (r .queue))) (r .queue))
-      (well-freed slots r w (message (marks (r .queue)))) (told-freed slots r pushes handed w t (message (marks (r .queue))))
+  holds-received empty = rw append-nil t
+  holds-received expecting = rw append-nil t
+  holds-received longer = rw append-nil t
+  holds-received (gives n) =
+      holds-moved slots (freed (message (marks (r .queue))) r) pushes (handed ++ take (message (marks (r .queue))) (r .queue))
+      (well-freed slots r w (message (marks (r .queue)))) (holds-freed slots r pushes handed w t (message (marks (r .queue))))
 
-  told-event : (c : Event) → Small c → Told (leaves slots c r) (pushes ++ placed (length (handed ++ r .queue)) (r .next) (takes c r)) (handed ++ hands c r)
+  holds-event : (c : Event) → Small c → Holds (leaves slots c r) (pushes ++ placed (length (handed ++ r .queue)) (r .next) (takes c r)) (handed ++ hands c r)
   unfolding leaves takes hands placed recv
-  told-event (eventPush full s) small = rw (append-nil handed) (told-push full s small)
-  told-event (eventRecv room) small = rw (append-nil pushes) (told-received (recvAnswer room r))
-  told-event eventMove small = rw (append-nil pushes, append-nil handed) (told-moved slots r pushes handed w t)
-  told-event (eventWindow v) small = rw (append-nil pushes, append-nil handed) (told-window slots r pushes handed w t v)
+  holds-event (eventPush full s) small = rw (append-nil handed) (holds-push full s small)
+  holds-event (eventRecv room) small = rw (append-nil pushes) (holds-received (recvAnswer room r))
+  holds-event eventMove small = rw (append-nil pushes, append-nil handed) (holds-moved slots r pushes handed w t)
+  holds-event (eventWindow v) small = rw (append-nil pushes, append-nil handed) (holds-window slots r pushes handed w t v)
 
 -- the largest window kept is the largest that was in force
 module _ (slots : ℕ) (r : Receiving) (w : WellFormed slots r) where
   peak-event : (c : Event) → leaves slots c r .largest ≡ max (r .largest) (leaves slots c r .window)
   unfolding leaves moveBuf moved recv received freed push stored setWindow widened
-  peak-event (eventPush full s) = go (reached full r (s .sn)) (isHeld (s .sn) (numbers (r .held)))
+  peak-event (eventPush full s) = go (reached full (r .next) (r .window) s) (isHeld (s .sn) (numbers (r .held)))
     where
       put : Bool → Receiving
       put c = cond c r (record { next = r .next; window = r .window; largest = r .largest; queue = r .queue; held = insert (r .next) s (r .held) })
@@ -133,7 +135,9 @@ module _ (slots : ℕ) (r : Receiving) (w : WellFormed slots r) where
   peak-event (eventRecv room) = go (recvAnswer room r)
     where
       go : (a : Answer) → received a r .largest ≡ max (r .largest) (received a r .window)
-      go (refused n) = let l = w .windowed in omega arith
+      go empty = let l = w .windowed in omega arith
+      go expecting = let l = w .windowed in omega arith
+      go longer = let l = w .windowed in omega arith
       go (gives n) = let l = w .windowed in omega arith
   peak-event eventMove = let l = w .windowed in omega arith
   peak-event (eventWindow v) = go (ltb 0 v && not (tooLarge slots v))
@@ -151,22 +155,22 @@ length-placed p next (s ∷ l) = ap suc (length-placed p next l)
 
 module _ (slots : ℕ) where
   -- what every event keeps, so that a history of the block's calls can take it step by step
-  pub record Inv (h : History) : Type 0 where
+  pub record Inv (h : Past) : Type 0 where
     pub well : WellFormed slots (h .now)
-    pub told : Told (h .now) (h .pushes) (h .handed)
+    pub holds : Holds (h .now) (h .pushes) (h .handed)
     pub counted : h .moves ≡ length (h .handed ++ h .now .queue)
     pub peak : h .now .largest ≡ h .peak
 
-  pub inv-step : (h : History) (c : Event) → Small c → Inv h → Inv (step slots h c)
+  pub inv-step : (h : Past) (c : Event) → Small c → Inv h → Inv (step slots h c)
   unfolding step
   inv-step h c small i =
       let q : ℕ = length (h .handed ++ h .now .queue) in
-      let t = told-event slots (h .now) (h .pushes) (h .handed) (i .well) (i .told) c small in
+      let t = holds-event slots (h .now) (h .pushes) (h .handed) (i .well) (i .holds) c small in
       record {
         well = well-event slots (h .now) (i .well) c small;
-        told = rw (i .counted) t;
+        holds = rw (i .counted) t;
         counted =
-            let before = i .told .total in let after = t .total in let k = i .counted in
+            let before = i .holds .total in let after = t .total in let k = i .counted in
             let e = length-append (h .pushes) (placed q (h .now .next) (takes c (h .now))) in
             let f = length-placed q (h .now .next) (takes c (h .now)) in
             let a = length-append (h .handed) (h .now .queue) in
@@ -179,29 +183,29 @@ module _ (slots : ℕ) where
   unfolding begun layout standing placed fresh
   inv-begun b = record {
     well = well-fresh slots b;
-    told = record { awaited = refl; numbered = tt; same = λ k. refl; total = refl };
+    holds = record { awaited = refl; numbered = tt; same = λ k. refl; total = refl };
     counted = refl;
     peak = refl;
   }
 
-  pub inv-well : (h : History) → Inv h → WellFormed slots (h .now)
+  pub inv-well : (h : Past) → Inv h → WellFormed slots (h .now)
   inv-well h i = i .well
 
-  pub inv-run : (events : List Event) → AllSmall events → (h : History) → Inv h → Inv (runFrom slots h events)
+  pub inv-run : (events : List Event) → AllSmall events → (h : Past) → Inv h → Inv (runFrom slots h events)
   unfolding runFrom
   inv-run [] small h i = i
   inv-run (c ∷ events) small h i = inv-run events (small .1) (step slots h c) (inv-step h c (small .0) i)
 
-  pub inv-sound : (h : History) → Inv h → Sound slots h
+  pub inv-sound : (h : Past) → Inv h → Sound slots h
   unfolding inUse distanceAt layout
   inv-sound h i = record {
     rising = λ a b l u. ordered-rising (h .now .next) (h .now .largest) 0 (numbers (h .now .held)) 0 (i .well .ordered) a b l (rw length-map u);
     inside = λ a u. rw (← i .peak) (ordered-high (h .now .next) (h .now .largest) 0 (numbers (h .now .held)) 0 (i .well .ordered) a (rw length-map u));
-    number = λ k b. let e = numbered-at 0 (h .handed ++ h .now .queue) none-segment (i .told .numbered) k (far k b) in rw (← List·getD-append (h .handed) (h .now .queue) none-segment k b) (omega arith);
-    firstTaken = λ k b. i .told .same k ∙ rw (first-append, (rw zero-add at (standing-at 0 (h .handed ++ h .now .queue) none-segment k (far k b))), List·getD-append (h .handed) (h .now .queue) none-segment k b);
+    number = λ k b. let e = numbered-at 0 (h .handed ++ h .now .queue) none-segment (i .holds .numbered) k (far k b) in rw (← List·getD-append (h .handed) (h .now .queue) none-segment k b) (omega arith);
+    firstTaken = λ k b. i .holds .same k ∙ rw (first-append, (rw zero-add at (standing-at 0 (h .handed ++ h .now .queue) none-segment k (far k b))), List·getD-append (h .handed) (h .now .queue) none-segment k b);
     kept = i .peak;
     counted = i .counted ∙ length-append (h .handed) (h .now .queue);
-    total = i .told .total;
+    total = i .holds .total;
     twice = let q = i .well .queued in let o = ordered-length (h .now .next) (h .now .largest) 0 (numbers (h .now .held)) (i .well .ordered) in
         let m = length-map (h .now .held) (λ (x : Segment). x .sn) in let k = i .peak in omega arith;
     room = well-room slots (h .now) (i .well);

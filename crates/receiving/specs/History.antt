@@ -40,7 +40,7 @@ placed p next (s ∷ l) = record { place = p + distance next (s .sn); segment = 
 
 -- the receive side, and what happened: the pushes taken and the segments handed out, oldest first; how many segments ever moved to the queue;
 -- and the largest receive window that was in force
-pub record History : Type 0 where
+pub record Past : Type 0 where
   pub now : Receiving
   pub pushes : List Taken
   pub handed : List Segment
@@ -49,7 +49,7 @@ pub record History : Type 0 where
 
 -- the push that an event takes
 unfoldable pub takes : Event → Receiving → List Segment
-takes (eventPush full s) r = cond (taken full r (s .sn)) (s ∷ []) []
+takes (eventPush full s) r = cond (taken full r s) (s ∷ []) []
 takes (eventRecv room) r = []
 takes eventMove r = []
 takes (eventWindow w) r = []
@@ -69,7 +69,7 @@ module _ (slots : ℕ) where
   leaves (eventWindow w) r = setWindow slots w r
 
   -- what was held or came in and is no longer held has moved to the queue
-  unfoldable pub step : History → Event → History
+  unfoldable pub step : Past → Event → Past
   step h c = record {
     now = leaves c (h .now);
     pushes = h .pushes ++ placed (h .moves) (h .now .next) (takes c (h .now));
@@ -78,12 +78,12 @@ module _ (slots : ℕ) where
     peak = max (h .peak) (leaves c (h .now) .window);
   }
 
-  unfoldable pub runFrom : History → List Event → History
+  unfoldable pub runFrom : Past → List Event → Past
   runFrom h [] = h
   runFrom h (c ∷ events) = runFrom (step h c) events
 
 -- nothing has happened yet
-unfoldable pub begun : History
+unfoldable pub begun : Past
 begun = record { now = fresh; pushes = []; handed = []; moves = 0; peak = fresh .window }
 
 -- the first push taken for place k
@@ -102,7 +102,7 @@ unfoldable pub distanceAt : Receiving → ℕ → ℕ
 distanceAt r i = distance (r .next) (getD (numbers (r .held)) i 0)
 
 -- demand 3
-pub record Sound (slots : ℕ) (h : History) : Type 0 where
+pub record Sound (slots : ℕ) (h : Past) : Type 0 where
   -- held segments stand in strictly rising order of distance, each inside the largest window in force so far
   pub rising : (i j : ℕ) → i < j → j < length (h .now .held) → distanceAt (h .now) i < distanceAt (h .now) j
   pub inside : (i : ℕ) → i < length (h .now .held) → distanceAt (h .now) i < h .peak
@@ -117,4 +117,4 @@ pub record Sound (slots : ℕ) (h : History) : Type 0 where
   pub total : inUse (h .now) + length (h .handed) ≡ length (h .pushes)
   pub twice : inUse (h .now) ≤ 2 * h .peak
   -- so no push is turned away for want of a slot
-  pub room : (full : Bool) (sn : ℕ) → sn < 2 ^ 32 → taken full (h .now) sn ≡ true → inUse (h .now) < slots
+  pub room : (full : Bool) (s : Segment) → s .sn < 2 ^ 32 → taken full (h .now) s ≡ true → inUse (h .now) < slots

@@ -1,4 +1,3 @@
 pub mod Rules
 pub mod History
-pub mod Numbers
 pub mod Examples

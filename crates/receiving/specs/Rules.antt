@@ -1,5 +1,5 @@
 -- The receive side's rules over lists of segments: 01's Push, `move_buf`, recv and peeksize, the window setter, and refusals 5, 6, 7 and 14.
--- Every decision is a function over lists of numbers, so that a loop's contract names only order and numbers. Assumes nothing.
+-- Every decision is a function of numbers, lists of numbers and the segment that came, so that the functions over memory make the same. Assumes nothing.
 use Prim.Native.Nat.{ℕ, suc, zero, _+_, _-_, _*_, _^_, _≤_, _<_, max}
 use mathlib.Core.Bool.{Bool, false, cond, not, _&&_, _||_}
 use mathlib.Core.List.{List, [], _∷_, _++_, map}
@@ -7,8 +7,7 @@ use lib.ListN.{length, take, drop}
 use lib.Dec.{ltb, leb, eqb}
 use Rattle.serial.specs.Wrap.{add32}
 use Rattle.serial.specs.Window.{distance, inWindow, acknowledged}
-use Rattle.lent.specs.Order.{inserted}
-use Rattle.slots.specs.Entries.{total}
+use Rattle.ring.specs.Sequences.{inserted}
 
 pub record Segment : Type 0 where
   pub sn : ℕ
@@ -59,12 +58,12 @@ moveBuf r = moved (ready (r .next) (r .window - length (r .queue)) (numbers (r .
 -- ---- a push; `full` says whether the ack list is full
 
 -- "Where it would be acknowledged and the ack list is full, it is skipped"
-unfoldable pub skipped : Bool → ℕ → ℕ → ℕ → Bool
-skipped full next window sn = acknowledged next window sn && full
+unfoldable pub skipped : Bool → ℕ → ℕ → Segment → Bool
+skipped full next window s = acknowledged next window (s .sn) && full
 
 -- "Otherwise, if acknowledged, (sn, ts) joins the list"
-unfoldable pub listed : Bool → ℕ → ℕ → ℕ → Bool
-listed full next window sn = acknowledged next window sn && not full
+unfoldable pub listed : Bool → ℕ → ℕ → Segment → Bool
+listed full next window s = acknowledged next window (s .sn) && not (skipped full next window s)
 
 -- whether sn is held
 unfoldable pub isHeld : ℕ → List ℕ → Bool
@@ -72,12 +71,12 @@ isHeld sn [] = false
 isHeld sn (n ∷ held) = eqb n sn || isHeld sn held
 
 -- "Unless the push was skipped, whenever d < rcv_wnd"
-unfoldable pub reached : Bool → Receiving → ℕ → Bool
-reached full r sn = inWindow (r .next) (r .window) sn && not (skipped full (r .next) (r .window) sn)
+unfoldable pub reached : Bool → ℕ → ℕ → Segment → Bool
+reached full next window s = inWindow next window (s .sn) && not (skipped full next window s)
 
 -- "with d < rcv_wnd and sn not held the push is *taken*"
-unfoldable pub taken : Bool → Receiving → ℕ → Bool
-taken full r sn = reached full r sn && not (isHeld sn (numbers (r .held)))
+unfoldable pub taken : Bool → Receiving → Segment → Bool
+taken full r s = reached full (r .next) (r .window) s && not (isHeld (s .sn) (numbers (r .held)))
 
 -- "and stored in order": behind as many of the held numbers, from the front, as lie no farther than d
 unfoldable pub nearer : ℕ → ℕ → List ℕ → ℕ
@@ -92,7 +91,7 @@ stored s r = cond (isHeld (s .sn) (numbers (r .held))) r
     (record { next = r .next; window = r .window; largest = r .largest; queue = r .queue; held = insert (r .next) s (r .held) })
 
 unfoldable pub push : Bool → Segment → Receiving → Receiving
-push full s r = cond (reached full r (s .sn)) (moveBuf (stored s r)) r
+push full s r = cond (reached full (r .next) (r .window) s) (moveBuf (stored s r)) r
 
 -- ---- "recv joins segments from the queue front up to the first frg 0 or the queue's end"
 
@@ -106,9 +105,16 @@ unfoldable pub joined : List (List ℕ) → List ℕ
 joined [] = []
 joined (x ∷ l) = x ++ joined l
 
--- a length, or the number of a refusal
+-- how many bytes those are
+unfoldable pub sum : List ℕ → ℕ
+sum [] = 0
+sum (x ∷ l) = x + sum l
+
+-- refusals 5, 6 and 7, or a length
 pub data Answer : Type 0 where
-  refused : ℕ → Answer
+  empty : Answer
+  expecting : Answer
+  longer : Answer
   gives : ℕ → Answer
 
 -- "6 | front frg > 0 and queue shorter than frg + 1", "frg + 1 is a whole number here: 255 asks for 256 segments"
@@ -117,23 +123,27 @@ expects frg queued = ltb 0 frg && ltb queued (frg + 1)
 
 -- "5 | recv or peeksize, queue empty"; "It answers the message's length, as peeksize does": by the marks and the sizes of the queue
 unfoldable pub peeked : List ℕ → List ℕ → Answer
-peeked [] sizes = refused 5
-peeked (f ∷ marks) sizes = cond (expects f (suc (length marks))) (refused 6) (gives (total (λ (n : ℕ). n) (take (message (f ∷ marks)) sizes)))
+peeked [] sizes = empty
+peeked (f ∷ marks) sizes = cond (expects f (suc (length marks))) expecting (gives (sum (take (message (f ∷ marks)) sizes)))
 
 unfoldable pub peek : List Segment → Answer
 peek queue = peeked (marks queue) (sizes queue)
 
 -- "7 | message longer than the buffer"
 unfoldable pub unlessLonger : ℕ → Answer → Answer
-unlessLonger room (refused n) = refused n
-unlessLonger room (gives n) = cond (ltb room n) (refused 7) (gives n)
+unlessLonger room empty = empty
+unlessLonger room expecting = expecting
+unlessLonger room longer = longer
+unlessLonger room (gives n) = cond (ltb room n) longer (gives n)
 
 unfoldable pub recvAnswer : ℕ → Receiving → Answer
 recvAnswer room r = unlessLonger room (peek (r .queue))
 
 -- how many segments an answer hands out
 unfoldable pub given : Answer → Receiving → ℕ
-given (refused n) r = 0
+given empty r = 0
+given expecting r = 0
+given longer r = 0
 given (gives n) r = message (marks (r .queue))
 
 -- "it frees their slots": the queue without its first n
@@ -142,7 +152,9 @@ freed n r = record { next = r .next; window = r .window; largest = r .largest; q
 
 -- "moves held segments"
 unfoldable pub received : Answer → Receiving → Receiving
-received (refused n) r = r
+received empty r = r
+received expecting r = r
+received longer r = r
 received (gives n) r = moveBuf (freed (message (marks (r .queue))) r)
 
 unfoldable pub recv : ℕ → Receiving → Receiving
@@ -154,28 +166,32 @@ tells window before after = leb window before && ltb after window
 
 -- ---- the window setter, with the lent slots; "14 | rcvwnd > 0 and 2·max(rcvwnd, 128) > R | both windows as they were"
 
+-- the window that a setter asks for: at least 128
+abbrev pub wanted : ℕ → ℕ
+wanted rcvwnd = max rcvwnd 128
+
 unfoldable pub tooLarge : ℕ → ℕ → Bool
-tooLarge slots rcvwnd = ltb 0 rcvwnd && ltb slots (2 * max rcvwnd 128)
+tooLarge slots rcvwnd = ltb 0 rcvwnd && ltb slots (2 * wanted rcvwnd)
+
+-- a number of 0 asks for nothing
+abbrev pub widens : ℕ → ℕ → Bool
+widens slots rcvwnd = ltb 0 rcvwnd && not (tooLarge slots rcvwnd)
 
 unfoldable pub widened : ℕ → Receiving → Receiving
 widened w r = record { next = r .next; window = w; largest = max (r .largest) w; queue = r .queue; held = r .held }
 
 unfoldable pub setWindow : ℕ → ℕ → Receiving → Receiving
-setWindow slots rcvwnd r = cond (ltb 0 rcvwnd && not (tooLarge slots rcvwnd)) (widened (max rcvwnd 128) r) r
+setWindow slots rcvwnd r = cond (widens slots rcvwnd) (widened (wanted rcvwnd) r) r
 
 -- ---- a fresh receive side, and a well-formed one
 
 unfoldable pub fresh : Receiving
 fresh = record { next = 0; window = 128; largest = 128; queue = []; held = [] }
 
--- "held numbers rising as in demand 3": the distances of the numbers l rise strictly, from lo up to, not including, hi; as a fact and as a test
+-- "held numbers rising as in demand 3": the distances of the numbers l rise strictly, from lo up to, not including, hi
 abbrev pub Ordered : ℕ → ℕ → ℕ → List ℕ → Type 0
 Ordered next lo hi [] = lo ≤ hi
 Ordered next lo hi (n ∷ l) = (lo ≤ distance next n) × (n < 2 ^ 32) × Ordered next (suc (distance next n)) hi l
-
-unfoldable pub rises : ℕ → ℕ → ℕ → List ℕ → Bool
-rises next lo hi [] = leb lo hi
-rises next lo hi (n ∷ l) = leb lo (distance next n) && rises next (suc (distance next n)) hi l
 
 pub record WellFormed (slots : ℕ) (r : Receiving) : Type 0 where
   pub awaited : r .next < 2 ^ 32
