@@ -1,7 +1,7 @@
 -- The decisions of the rules, by the tests that the code makes. Assumes nothing.
 use Prim.Native.Nat.{ℕ, _+_, _-_, _/_, _<_, _≤_, max}
 use mathlib.Core.Path.{_≡_, _∙_}
-use mathlib.Core.Bool.{true, false}
+use mathlib.Core.Bool.{Bool, true, false, _&&_}
 use borrow.Author.Tests.{lt-ltb, le-ltb, le-leb, lt-leb}
 use Rattle.serial.specs.Branch.{pick}
 use Rattle.serial.specs.Wrap.{add32, add16, add64, mul64, low16, notBefore, after}
@@ -94,3 +94,13 @@ module _ (mss ssthresh rmtWnd : ℕ) (w : Window) where
   pub grown-not : rmtWnd ≤ w .cwnd → w ≡ grown mss ssthresh rmtWnd w
   unfolding grown pick
   grown-not h = rw (le-ltb (w .cwnd) rmtWnd h)
+
+-- ---- two tests together
+
+-- where the first holds, the second decides
+pub goes : {s : Bool} (t : Bool) → s ≡ true → t ≡ (s && t)
+goes t h = rw h
+
+-- where the first fails, both do
+pub fails : {s : Bool} (t : Bool) → s ≡ false → false ≡ (s && t)
+fails t h = rw h

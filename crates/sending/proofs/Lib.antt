@@ -1,2 +1,1 @@
-pub mod Bridge
 pub mod Choices

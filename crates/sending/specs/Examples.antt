@@ -4,7 +4,7 @@ use mathlib.Core.Path.{_≡_, refl}
 use mathlib.Core.Bool.{Bool, true, false}
 use mathlib.Core.List.{List, [], _∷_, map}
 use Rattle.serial.specs.Branch.{pick}
-use Rattle.lent.specs.Order.{removed}
+use Rattle.ring.specs.Sequences.{removed}
 use Rattle.sending.specs.declared.Latest.{Latest}
 use Rattle.sending.specs.declared.Window.{Window}
 use Rattle.sending.specs.Rules.{acknowledgedBy, unaOf, inRange, seek, meets, later, gains, fastackOf, counts, pastThreshold, roundedUp, opened, cutTo, grown}

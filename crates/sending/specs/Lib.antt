@@ -1,4 +1,3 @@
 pub mod Rules
-pub mod Numbers
 pub mod Send
 pub mod Examples

@@ -1,5 +1,5 @@
 -- The sending side's rules over lists of segments: of 01's Input what is done with una, Ack, and the two steps at an input's end, (a) and (b).
--- Every decision is a function over lists of numbers, so that a loop's contract names only order and numbers. Assumes nothing.
+-- Every decision is a function of numbers and lists of numbers, so that the functions over memory make the same. Assumes nothing.
 use Prim.Native.Nat.{ℕ, suc, _+_, _-_, _/_, max}
 use mathlib.Core.Bool.{Bool, true, cond, not, _&&_, _||_}
 use mathlib.Core.List.{List, [], _∷_, map}
@@ -7,7 +7,7 @@ use lib.ListN.{length, drop, getD}
 use lib.Dec.{ltb, leb, eqb}
 use Rattle.serial.specs.Branch.{pick}
 use Rattle.serial.specs.Wrap.{add32, add16, add64, mul64, low16, notBefore, after}
-use Rattle.lent.specs.Order.{removed}
+use Rattle.ring.specs.Sequences.{removed}
 use Rattle.sending.specs.declared.Latest.{Latest}
 use Rattle.sending.specs.declared.Window.{Window}
 

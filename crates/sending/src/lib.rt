@@ -1,14 +1,8 @@
-// The sending side's rules (specs/), and the loops over the segments in flight.
+// The sending side's rules (specs/), and what they do with numbers: the range in flight, the latest ack, a fastack, the window's growth.
 ghost use mathlib.Core.Path.{_≡_};
 ghost use mathlib.Core.Bool.{false};
-ghost use mathlib.Core.List.{[]};
-ghost use Prim.Native.Nat.{ℕ, _+_, _*_, _<_, _≤_, max};
-ghost use lib.ListN.{length, getD};
-ghost use Rattle.lent.specs.Records.{numberAt};
-ghost use Rattle.slots.specs.Entries.{slotOf};
-ghost use Rattle.slots.specs.Pool.{lists, numbersAt};
-ghost use Rattle.sending.specs.Rules.{acknowledgedBy, unaOf, inRange, stops, fastackOf, later, counts, pastThreshold, roundedUp, opened, cutTo, grown};
-ghost use Rattle.sending.specs.Numbers.{Ends};
+ghost use Prim.Native.Nat.{_<_, max};
+ghost use Rattle.sending.specs.Rules.{inRange, stops, fastackOf, later, counts, pastThreshold, roundedUp, opened, cutTo, grown};
 
 // max_ack and latest_ts, once an ack of the datagram was seen: those of its first ack, and then of each that is later in both.
 pub struct Latest {
@@ -30,50 +24,6 @@ pub struct Flight {
     pub fastack: u32,
 }
 
-// Where the search for a number in flight ends, and whether it stands there.
-pub struct Sought {
-    pub at: usize,
-    pub met: bool,
-}
-
-// Number k of the segment at place i of the order: conv, frg, sn, ts, resendts, rto, fastack, xmit.
-pub fn number_of(order: &[u32], records: &[u32], i: usize, k: usize) -> u32
-    requires { ⌜ i < length (now order) ⌝ }
-    requires { ⌜ slotOf (getD (now order) i 0) * 8 + 8 ≤ length (now records) ⌝ }
-    requires { ⌜ k < 8 ⌝ }
-    ensures { λ r. ⌜ r ≡ numberAt 8 (now (records .entry)) (slotOf (getD (now (order .entry)) i 0)) k ⌝ }
-{
-    lent::number_at(records, 8, slots::slot_of(order[i]), k)
-}
-
-// How many of the `count` segments in flight una acknowledges: those at the front that are numbered before it.
-pub fn acknowledged_count(order: &[u32], records: &[u32], count: usize, una: u32) -> usize
-    requires { ⌜ count ≤ length (now order) ⌝ }
-    requires { ⌜ ((i : ℕ) → i < count → slotOf (getD (now order) i 0) * 8 + 8 ≤ length (now records)) ⌝ }
-    ensures { λ r. ⌜ r ≡ acknowledgedBy una (numbersAt 8 (lists (now (order .entry)) (now (records .entry)) []) 2 0 count) ⌝ }
-{
-    let mut i = 0;
-    while i < count {
-        if !serial::after(una, number_of(order, records, i, 2)) {
-            return i;
-        }
-        i += 1;
-    }
-    i
-}
-
-// The first number in flight, or the next number where none is in flight.
-pub fn una_of(order: &[u32], records: &[u32], count: usize, next: u32) -> u32
-    requires { ⌜ count ≤ length (now order) ⌝ }
-    requires { ⌜ ((i : ℕ) → i < count → slotOf (getD (now order) i 0) * 8 + 8 ≤ length (now records)) ⌝ }
-    ensures { λ r. ⌜ r ≡ unaOf next (numbersAt 8 (lists (now (order .entry)) (now (records .entry)) []) 2 0 count) ⌝ }
-{
-    if count == 0 {
-        return next;
-    }
-    number_of(order, records, 0, 2)
-}
-
 // Whether a number is from una on and before the next one.
 pub fn in_range(una: u32, next: u32, sn: u32) -> bool
     ensures { λ r. ⌜ r ≡ inRange una next sn ⌝ }
@@ -85,30 +35,10 @@ pub fn in_range(una: u32, next: u32, sn: u32) -> bool
 }
 
 // Whether the search for sn stops at the number n: greater as a plain unsigned number.
-fn stops(sn: u32, n: u32) -> bool
+pub fn stops(sn: u32, n: u32) -> bool
     ensures { λ r. ⌜ r ≡ stops sn n ⌝ }
 {
     sn < n
-}
-
-// Searches for a number among the `count` in flight, from the front on.
-pub fn seek(order: &[u32], records: &[u32], count: usize, sn: u32) -> Sought
-    requires { ⌜ count ≤ length (now order) ⌝ }
-    requires { ⌜ ((i : ℕ) → i < count → slotOf (getD (now order) i 0) * 8 + 8 ≤ length (now records)) ⌝ }
-    ensures { λ r. ⌜ Ends sn (numbersAt 8 (lists (now (order .entry)) (now (records .entry)) []) 2 0 count) r ⌝ }
-{
-    let mut i = 0;
-    while i < count {
-        let n = number_of(order, records, i, 2);
-        if n == sn {
-            return Sought { at: i, met: true };
-        }
-        if stops(sn, n) {
-            return Sought { at: i, met: false };
-        }
-        i += 1;
-    }
-    Sought { at: i, met: false }
 }
 
 // The fastack of a flight record after the acks of a datagram: one more if it is numbered before max_ack, with ts not later than latest_ts.

@@ -1,7 +1,7 @@
 -- `sending::in_range` meets its contract. Assumes nothing.
 use mathlib.Core.Path.{sym, ap, _∙_}
 use mathlib.Core.Bool.{not}
-use Rattle.sending.proofs.Bridge.{goes, fails}
+use Rattle.sending.proofs.Choices.{goes, fails}
 use Rattle.sending.specs.Rules.{inRange}
 use borrow.Author.Needs.{needs}
 use Rattle.sending.proofs.in_range.Statement.{statement}
