@@ -1,3 +1,2 @@
 pub mod Memory
 pub mod Fits
-pub mod Examples

@@ -1,4 +1,2 @@
 pub mod Memory
-pub mod Marks
 pub mod Whole
-pub mod Examples

@@ -26,9 +26,15 @@ pieces mss stream n = pick (eqb n 0) (pick stream 0 1) ((n + (mss - 1)) / mss)
 unfoldable pub needed : ℕ → Bool → ℕ → ℕ → ℕ → ℕ
 needed mss stream queued last n = pieces mss stream (n - joins mss stream queued last n)
 
--- "8 | send needs 128 segments or more", "12 | new segments exceed free send slots", "8 before 12"; 0 where nothing is refused
-unfoldable pub sendNumber : ℕ → ℕ → ℕ
-sendNumber new free = pick (leb 128 new) 8 (pick (ltb free new) 12 0)
+-- "8 | send needs 128 segments or more", "12 | new segments exceed free send slots", or neither
+pub data Verdict : Type 0 where
+  tooBig : Verdict
+  poolFull : Verdict
+  fits : Verdict
+
+-- "8 before 12"
+unfoldable pub verdict : ℕ → ℕ → Verdict
+verdict new free = pick (leb 128 new) tooBig (pick (ltb free new) poolFull fits)
 
 -- ---- over the segments
 
@@ -82,7 +88,7 @@ module _ (mss : ℕ) (stream : Bool) (bytes : List ℕ) (s : Sending) where
   abbrev pub new : ℕ
   new = needed mss stream (length (s .waiting)) (lastSize (s .waiting)) (length bytes)
 
-  -- "8 | stream: the appended part stays"
+  -- the last queued segment is filled
   unfoldable pub filled : Sending
   filled =
       cond (fills mss stream (length (s .waiting)) (lastSize (s .waiting)))
@@ -93,6 +99,12 @@ module _ (mss : ℕ) (stream : Bool) (bytes : List ℕ) (s : Sending) where
   unfoldable pub queued : Sending
   queued = withWaiting filled (filled .waiting ++ cut mss stream new (drop joining bytes))
 
-  -- what a send leaves, with so many free slots: "12 | all as it was"
+  -- what a send leaves: "8 | stream: the appended part stays; else all as it was", "12 | all as it was"
+  unfoldable pub leftBy : Verdict → Sending
+  leftBy tooBig = filled
+  leftBy poolFull = s
+  leftBy fits = queued
+
+  -- with so many free slots
   unfoldable pub send : ℕ → Sending
-  send free = pick (eqb (sendNumber new free) 12) s (pick (eqb (sendNumber new free) 8) filled queued)
+  send free = leftBy (verdict new free)

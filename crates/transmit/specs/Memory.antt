@@ -1,97 +1,132 @@
 -- What una, acks and fastack do to the block's numbers and to the lent memory, every number and byte: the memory functions of `parse_una`,
--- `parse_ack` and `parse_fastack`. The decisions are those of the rules (sending/specs/Rules), asked of the numbers in the pool.
--- The pool has records of eight numbers: conv, frg, sn, ts, resendts, rto, fastack, xmit. Assumes nothing.
+-- `parse_ack` and `parse_fastack`. The decisions are those of the rules (sending/specs/Rules), asked of the numbers in the ring.
+-- A row has eight numbers: conv, frg, sn, ts, resendts, rto, fastack, xmit. Assumes nothing.
 use Prim.Native.Nat.{ℕ, zero, suc, _+_, _-_}
+use mathlib.Core.Path.{_≡_}
+use mathlib.Core.Bool.{cond, _||_}
 use mathlib.Core.List.{List, [], _∷_, map}
-use lib.ListN.{getD}
+use lib.ListN.{length, getD}
+use lib.Dec.{eqb}
 use Rattle.serial.specs.Branch.{pick}
-use Rattle.lent.specs.Records.{numberAt}
-use Rattle.slots.specs.Entries.{slotOf}
-use Rattle.slots.specs.Pool.{Lists, Stored, view, numbersAt, takenOut, dropped, renewed}
+use Rattle.ring.specs.Records.{numberAt}
+use Rattle.ring.specs.Places.{place}
+use Rattle.snd_ring.specs.declared.SndRing.{SndRing}
+use Rattle.snd_ring.specs.Marks.{markAt}
+use Rattle.snd_ring.specs.Store.{Store, Stored, flightOf, waitingOf}
+use Rattle.snd_ring.specs.Steps.{dropped, gapped, takenOut, withMarks, renumbered}
 use Rattle.block.specs.declared.sender.Sender.{Sender}
+use Rattle.block.specs.Parts.{withSndRing, withUna}
 use Rattle.sending.specs.declared.Latest.{Latest}
-use Rattle.sending.specs.Rules.{Segment, Sending, acknowledgedBy, unaOf, found, seek, counts, fastackOf}
+use Rattle.sending.specs.Rules.{Segment, Sending, acknowledgedBy, unaOf, stops, meets, found, counts, fastackOf}
+use Rattle.transmit.specs.declared.Sought.{Sought}
 
--- ---- the memory as segments: the first `flying` entries of the order are in flight, the `unsent` after them wait
+-- ---- the columns of a row
+
+abbrev pub conv : ℕ
+conv = 0
+
+abbrev pub frg : ℕ
+frg = 1
+
+abbrev pub sn : ℕ
+sn = 2
+
+abbrev pub ts : ℕ
+ts = 3
+
+abbrev pub resendts : ℕ
+resendts = 4
+
+abbrev pub rto : ℕ
+rto = 5
+
+abbrev pub fastack : ℕ
+fastack = 6
+
+abbrev pub xmit : ℕ
+xmit = 7
+
+-- ---- the memory as segments
 
 abbrev pub segmentOf : Stored → Segment
 segmentOf s = record {
-  conv = getD (s .numbers) 0 0;
-  frg = getD (s .numbers) 1 0;
-  sn = getD (s .numbers) 2 0;
-  ts = getD (s .numbers) 3 0;
-  resendts = getD (s .numbers) 4 0;
-  rto = getD (s .numbers) 5 0;
-  fastack = getD (s .numbers) 6 0;
-  xmit = getD (s .numbers) 7 0;
+  conv = getD (s .row) conv 0;
+  frg = getD (s .row) frg 0;
+  sn = getD (s .row) sn 0;
+  ts = getD (s .row) ts 0;
+  resendts = getD (s .row) resendts 0;
+  rto = getD (s .row) rto 0;
+  fastack = getD (s .row) fastack 0;
+  xmit = getD (s .row) xmit 0;
   payload = s .payload;
 }
 
-abbrev pub segmentsAt : Lists → ℕ → ℕ → List Segment
-segmentsAt p from count = map segmentOf (view 8 p from count)
-
-unfoldable pub seen : Sender → Lists → Sending
-seen s p = record { una = s .«snd_una»; next = s .«snd_nxt»; flying = segmentsAt p 0 (s .flying); waiting = segmentsAt p (s .flying) (s .unsent) }
-
--- slots in use
-abbrev pub inUse : Sender → ℕ
-inUse s = s .flying + s .unsent
+unfoldable pub seen : Sender → Store → Sending
+seen s m =
+    record { una = s .«snd_una»; next = s .«snd_nxt»; flying = map segmentOf (flightOf 8 (s .ring) m); waiting = map segmentOf (waitingOf 8 (s .ring) m) }
 
 -- the numbers in flight
-abbrev pub flyingNumbers : Sender → Lists → List ℕ
-flyingNumbers s p = numbersAt 8 p 2 0 (s .flying)
+unfoldable pub flyingNumbers : SndRing → Store → List ℕ
+flyingNumbers r m = map (λ (x : Stored). getD (x .row) sn 0) (flightOf 8 r m)
 
--- the block's numbers, and the pool
+-- number k of the row at index i
+abbrev pub numberIn : SndRing → Store → ℕ → ℕ → ℕ
+numberIn r m i k = numberAt 8 (m .rows) (place (length (m .marks)) (r .start) i) k
+
+-- the block's numbers, and the memory
 pub record Side : Type 0 where
   pub sender : Sender
-  pub pool : Lists
+  pub store : Store
 
-abbrev pub side : Sender → Lists → Side
-side s p = record { sender = s; pool = p }
+abbrev pub side : Sender → Store → Side
+side s m = record { sender = s; store = m }
 
 -- ---- `parse_una` and `shrink_buf`
 
--- n segments fewer are in flight
-abbrev pub landed : ℕ → Sender → Sender
-landed n s = record { «snd_una» = s .«snd_una»; «snd_nxt» = s .«snd_nxt»; flying = s .flying - n; unsent = s .unsent; xmit = s .xmit; dead = s .dead }
-
 -- "snd_una = front number, or snd_nxt"
-abbrev pub withUna : ℕ → Sender → Sender
-withUna una s = record { «snd_una» = una; «snd_nxt» = s .«snd_nxt»; flying = s .flying; unsent = s .unsent; xmit = s .xmit; dead = s .dead }
+unfoldable pub shrunkAt : Sender → Store → Sender
+shrunkAt s m = withUna s (unaOf (s .«snd_nxt») (flyingNumbers (s .ring) m))
 
-unfoldable pub shrunkAt : Side → Side
-shrunkAt x = side (withUna (unaOf (x .sender .«snd_nxt») (flyingNumbers (x .sender) (x .pool))) (x .sender)) (x .pool)
-
--- the first n in flight are dropped
-unfoldable pub droppedAt : ℕ → Sender → Lists → Side
-droppedAt n s p = side (landed n s) (dropped (inUse s) p n)
-
-unfoldable pub unaAt : ℕ → Sender → Lists → Side
-unaAt una s p = shrunkAt (droppedAt (acknowledgedBy una (flyingNumbers s p)) s p)
+-- the segments in flight that una acknowledges are dropped; no memory changes
+unfoldable pub unaAt : ℕ → Sender → Store → Sender
+unaAt una s m = shrunkAt (withSndRing s (dropped (s .ring) (m .marks) (acknowledgedBy una (flyingNumbers (s .ring) m)))) m
 
 -- ---- `parse_ack` and `shrink_buf`
 
--- the one at place i is removed
-unfoldable pub removedAt : ℕ → Sender → Lists → Side
-removedAt i s p = side (landed 1 s) (takenOut (inUse s) p i)
+-- the search goes over the n indices from i on, gaps passed over: the index where it ends
+unfoldable pub sought : ℕ → SndRing → Store → ℕ → ℕ → ℕ
+sought x r m i zero = i
+sought x r m i (suc n) =
+    let more = sought x r m (suc i) n in
+    cond (eqb (markAt (m .marks) (r .start) i) 0) more (cond (eqb (numberIn r m i sn) x || stops x (numberIn r m i sn)) i more)
 
-unfoldable pub ackAt : ℕ → Sender → Lists → Side
-ackAt sn s p =
-    shrunkAt (pick (found (s .«snd_una») (s .«snd_nxt») sn (flyingNumbers s p)) (removedAt (seek sn (flyingNumbers s p)) s p) (side s p))
+-- what the search answers: its end, and whether the number stands there
+pub record Ends (x : ℕ) (r : SndRing) (m : Store) (o : Sought) : Type 0 where
+  pub at-is : o .at ≡ sought x r m 0 (r .reach)
+  pub met-is : o .met ≡ meets x (flyingNumbers r m)
 
--- ---- `parse_fastack`: one walk over the records in flight
+-- the segment at index i is taken out
+unfoldable pub removedAt : ℕ → Sender → Store → Side
+removedAt i s m = side (withSndRing s (takenOut (s .ring) (m .marks) i)) (withMarks m (gapped (s .ring) (m .marks) i))
 
--- number k of the segment at place i
-abbrev pub numberIn : Lists → ℕ → ℕ → ℕ
-numberIn p i k = numberAt 8 (p .records) (slotOf (getD (p .order) i 0)) k
+unfoldable pub shrunkSide : Side → Side
+shrunkSide x = side (shrunkAt (x .sender) (x .store)) (x .store)
 
-unfoldable pub raisedOne : ℕ → ℕ → ℕ → Lists → Lists
-raisedOne maxAck latestTs i p = renewed 8 p i 6 (fastackOf maxAck latestTs (numberIn p i 2) (numberIn p i 3) (numberIn p i 6) ∷ [])
+unfoldable pub ackAt : ℕ → Sender → Store → Side
+ackAt x s m =
+    shrunkSide (pick (found (s .«snd_una») (s .«snd_nxt») x (flyingNumbers (s .ring) m)) (removedAt (sought x (s .ring) m 0 (s .ring .reach)) s m) (side s m))
 
--- those at the `count` places from i on
-unfoldable pub raisedFrom : ℕ → ℕ → ℕ → ℕ → Lists → Lists
-raisedFrom maxAck latestTs zero i p = p
-raisedFrom maxAck latestTs (suc count) i p = raisedFrom maxAck latestTs count (suc i) (raisedOne maxAck latestTs i p)
+-- ---- `parse_fastack`: one walk over the rows in flight, gaps passed over
 
-unfoldable pub fastackAt : Latest → Sender → Lists → Lists
-fastackAt l s p = pick (counts l (s .«snd_una») (s .«snd_nxt»)) (raisedFrom (l .sn) (l .ts) (s .flying) 0 p) p
+unfoldable pub raisedOne : ℕ → ℕ → SndRing → ℕ → Store → Store
+raisedOne maxAck latestTs r i m =
+    cond (eqb (markAt (m .marks) (r .start) i) 0) m
+    (renumbered 8 m (place (length (m .marks)) (r .start) i) fastack (fastackOf maxAck latestTs (numberIn r m i sn) (numberIn r m i ts) (numberIn r m i fastack)))
+
+-- those at the n indices from i on
+unfoldable pub raisedFrom : ℕ → ℕ → SndRing → ℕ → ℕ → Store → Store
+raisedFrom maxAck latestTs r i zero m = m
+raisedFrom maxAck latestTs r i (suc n) m = raisedFrom maxAck latestTs r (suc i) n (raisedOne maxAck latestTs r i m)
+
+unfoldable pub fastackAt : Latest → Sender → Store → Store
+fastackAt l s m = pick (counts l (s .«snd_una») (s .«snd_nxt»)) (raisedFrom (l .sn) (l .ts) (s .ring) 0 (s .ring .reach) m) m

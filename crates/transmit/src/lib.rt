@@ -1,159 +1,201 @@
-// The sending side in lent memory: what input does with una and with acks, and the test of the send pool.
+// The sending side in lent memory: what input does with una and with acks, and the test of the send memory.
 ghost use mathlib.Core.Path.{_≡_};
-ghost use mathlib.Core.Bool.{true, _&&_};
-ghost use mathlib.Core.List.{[]};
-ghost use Prim.Native.Nat.{ℕ, _+_, _*_, _<_, _≤_};
-ghost use lib.ListN.{length, getD};
-ghost use Rattle.slots.specs.Entries.{slotOf};
-ghost use Rattle.slots.specs.Pool.{lists};
-ghost use Rattle.block.specs.Sizes.{sendSizes};
-ghost use Rattle.block.specs.WellFormed.{ownNumbers, sendNumbers};
-ghost use Rattle.transmit.specs.Memory.{side, landed, shrunkAt, unaAt, ackAt, numberIn, raisedOne, raisedFrom, fastackAt};
-ghost use Rattle.transmit.specs.Fits.{sendFits, SendFits, Lies};
+ghost use mathlib.Core.Bool.{true};
+ghost use mathlib.Core.List.{List, []};
+ghost use Prim.Native.Nat.{ℕ, _/_, _≤_, _<_};
+ghost use lib.ListN.{length};
+ghost use Rattle.ring.specs.Lists.{lists};
+ghost use Rattle.snd_ring.specs.Store.{storeOf, Sound};
+ghost use Rattle.block.specs.WellFormed.{OwnNumbers};
+ghost use Rattle.sending.specs.Rules.{acknowledgedBy, unaOf};
+ghost use Rattle.transmit.specs.Memory.{flyingNumbers, side, shrunkAt, unaAt, ackAt, raisedOne, raisedFrom, fastackAt, numberIn, Ends};
+ghost use Rattle.transmit.specs.Fits.{sendLent, sendFits, Lies};
 use block::Kcp;
 use block::sender::Sender;
 use block::sizes::send_sizes;
 use sending::Flight;
 use sending::Latest;
+use snd_ring::SndRing;
 
-// With n segments fewer in flight.
-fn landed(sender: Sender, n: u32) -> Sender
-    requires { ⌜ n ≤ sender .flying ⌝ }
-    ensures { λ r. ⌜ r ≡ landed n sender ⌝ }
+// The columns of a row that una, acks and fastack look at.
+const SN: usize = 2;
+
+const TS: usize = 3;
+
+const FASTACK: usize = 6;
+
+// How many of the segments in flight una acknowledges: those at the front that are numbered before it, gaps passed over.
+fn acknowledged_count(ring: SndRing, records: &[u32], una: u32) -> u32
+    requires { ⌜ length (now records) / 9 ≤ 65535 ⌝ }
+    requires { ⌜ ring .start < length (now records) / 9 ⌝ }
+    requires { ⌜ ring .reach ≤ length (now records) / 9 ⌝ }
+    ensures { λ r. ⌜ r ≡ acknowledgedBy una (flyingNumbers ring (storeOf 8 (lists (now (records .entry)) []))) ⌝ }
 {
-    Sender {
-        snd_una: sender.snd_una,
-        snd_nxt: sender.snd_nxt,
-        flying: sender.flying - n,
-        unsent: sender.unsent,
-        xmit: sender.xmit,
-        dead: sender.dead,
+    let slots = snd_ring::slots_in(records.len());
+    let start = ring.start as usize;
+    let reach = ring.reach as usize;
+    let mut n: u32 = 0;
+    let mut i = 0;
+    while i < reach {
+        let q = ring::place_of(slots, start, i);
+        if records[q] != 0 {
+            if !serial::after(una, snd_ring::number_at(records, slots, q, SN)) {
+                return n;
+            }
+            n += 1;
+        }
+        i += 1;
     }
+    n
 }
 
 // snd_una set anew: the front number, or snd_nxt.
-fn shrink(sender: Sender, order: &[u32], records: &[u32]) -> Sender
-    requires { ⌜ Lies sender (now order) (now records) ⌝ }
-    ensures { λ r. ⌜ side r (lists (now (order .entry)) (now (records .entry)) []) ≡ shrunkAt (side sender (lists (now (order .entry)) (now (records .entry)) [])) ⌝ }
+fn shrink(sender: Sender, records: &[u32]) -> Sender
+    requires { ⌜ Lies sender (now records) ⌝ }
+    ensures { λ r. ⌜ r ≡ shrunkAt sender (storeOf 8 (lists (now (records .entry)) [])) ⌝ }
 {
-    let flying = sender.flying as usize;
-    Sender {
-        snd_una: sending::una_of(order, records, flying, sender.snd_nxt),
-        snd_nxt: sender.snd_nxt,
-        flying: sender.flying,
-        unsent: sender.unsent,
-        xmit: sender.xmit,
-        dead: sender.dead,
+    let ring = sender.ring;
+    if ring.reach == 0 {
+        return sender.with_una(sender.snd_nxt);
     }
+    let slots = snd_ring::slots_in(records.len());
+    sender.with_una(snd_ring::number_at(records, slots, ring.start as usize, SN))
 }
 
-// Drops the segments in flight that una acknowledges; where there are none, the order is not touched.
-pub fn parse_una(sender: Sender, order: &mut [u32], records: &[u32], una: u32) -> Sender
-    requires { ⌜ Lies sender (now order) (now records) ⌝ }
-    ensures { λ r. ⌜ side r (lists (now (order .exit)) (now (records .entry)) []) ≡ unaAt una sender (lists (now (order .entry)) (now (records .entry)) []) ⌝ }
+// Drops the segments in flight that una acknowledges; no memory changes.
+pub fn parse_una(sender: Sender, records: &[u32], una: u32) -> Sender
+    requires { ⌜ Lies sender (now records) ⌝ }
+    ensures { λ r. ⌜ r ≡ unaAt una sender (storeOf 8 (lists (now (records .entry)) [])) ⌝ }
 {
-    let n = sending::acknowledged_count(order, records, sender.flying as usize, una);
-    if n == 0 {
-        return shrink(sender, order, records);
+    let ring = sender.ring;
+    let n = acknowledged_count(ring, records, una);
+    let slots = snd_ring::slots_in(records.len());
+    let less = snd_ring::drop_front(ring, &records[0..slots], n);
+    shrink(sender.with_ring(less), records)
+}
+
+// Where the search for a number in flight ends, and whether it stands there.
+pub struct Sought {
+    pub at: usize,
+    pub met: bool,
+}
+
+// Searches for a number in flight, from the front on, gaps passed over.
+fn seek(ring: SndRing, records: &[u32], sn: u32) -> Sought
+    requires { ⌜ length (now records) / 9 ≤ 65535 ⌝ }
+    requires { ⌜ ring .start < length (now records) / 9 ⌝ }
+    requires { ⌜ ring .reach ≤ length (now records) / 9 ⌝ }
+    ensures { λ r. ⌜ Ends sn ring (storeOf 8 (lists (now (records .entry)) [])) r ⌝ }
+{
+    let slots = snd_ring::slots_in(records.len());
+    let start = ring.start as usize;
+    let reach = ring.reach as usize;
+    let mut i = 0;
+    while i < reach {
+        let q = ring::place_of(slots, start, i);
+        if records[q] != 0 {
+            let n = snd_ring::number_at(records, slots, q, SN);
+            if n == sn {
+                return Sought { at: i, met: true };
+            }
+            if sending::stops(sn, n) {
+                return Sought { at: i, met: false };
+            }
+        }
+        i += 1;
     }
-    lent::drop_first(order, (sender.flying + sender.unsent) as usize, n);
-    shrink(landed(sender, n as u32), order, records)
+    Sought { at: i, met: false }
 }
 
 // Removes the segment that an ack names, if its number is in flight and the search finds it.
-pub fn parse_ack(sender: Sender, order: &mut [u32], records: &[u32], sn: u32) -> Sender
-    requires { ⌜ Lies sender (now order) (now records) ⌝ }
-    ensures { λ r. ⌜ side r (lists (now (order .exit)) (now (records .entry)) []) ≡ ackAt sn sender (lists (now (order .entry)) (now (records .entry)) []) ⌝ }
+pub fn parse_ack(sender: Sender, records: &mut [u32], sn: u32) -> Sender
+    requires { ⌜ Lies sender (now records) ⌝ }
+    ensures { λ r. ⌜ ((room : List ℕ) → side r (storeOf 8 (lists (now (records .exit)) room)) ≡ ackAt sn sender (storeOf 8 (lists (now (records .entry)) room))) ⌝ }
 {
     if !sending::in_range(sender.snd_una, sender.snd_nxt, sn) {
-        return shrink(sender, order, records);
+        return shrink(sender, records);
     }
-    let sought = sending::seek(order, records, sender.flying as usize, sn);
+    let ring = sender.ring;
+    let sought = seek(ring, records, sn);
     if !sought.met {
-        return shrink(sender, order, records);
+        return shrink(sender, records);
     }
-    lent::take_out(order, (sender.flying + sender.unsent) as usize, sought.at);
-    shrink(landed(sender, 1), order, records)
+    let less = snd_ring::take_out(ring, records, sought.at);
+    shrink(sender.with_ring(less), records)
 }
 
-// The flight record of the segment at place i of the order.
-fn flight_of(order: &[u32], records: &[u32], i: usize) -> Flight
-    requires { ⌜ i < length (now order) ⌝ }
-    requires { ⌜ slotOf (getD (now order) i 0) * 8 + 8 ≤ length (now records) ⌝ }
-    ensures { λ r. ⌜ r ≡ record {
-      number = numberIn (lists (now (order .entry)) (now (records .entry)) []) i 2;
-      ts = numberIn (lists (now (order .entry)) (now (records .entry)) []) i 3;
-      fastack = numberIn (lists (now (order .entry)) (now (records .entry)) []) i 6;
-    } ⌝ }
+// Writes the fastack of the segment at place q after the acks of a datagram; a gap is passed over.
+fn raise_one(ring: SndRing, records: &mut [u32], i: usize, max_ack: u32, latest_ts: u32)
+    requires { ⌜ length (now records) / 9 ≤ 65535 ⌝ }
+    requires { ⌜ ring .start < length (now records) / 9 ⌝ }
+    requires { ⌜ i < length (now records) / 9 ⌝ }
+    ensures { λ _. ⌜ ((room : List ℕ) → storeOf 8 (lists (now (records .exit)) room) ≡ raisedOne «max_ack» «latest_ts» ring i (storeOf 8 (lists (now (records .entry)) room))) ⌝ }
 {
-    Flight {
-        number: sending::number_of(order, records, i, 2),
-        ts: sending::number_of(order, records, i, 3),
-        fastack: sending::number_of(order, records, i, 6),
+    let slots = snd_ring::slots_in(records.len());
+    let q = ring::place_of(slots, ring.start as usize, i);
+    if records[q] == 0 {
+        return;
     }
-}
-
-// Writes the fastack of the segment at place i of the order after the acks of a datagram.
-fn raise_one(order: &[u32], records: &mut [u32], i: usize, max_ack: u32, latest_ts: u32)
-    requires { ⌜ i < length (now order) ⌝ }
-    requires { ⌜ slotOf (getD (now order) i 0) * 8 + 8 ≤ length (now records) ⌝ }
-    ensures { λ _. ⌜ lists (now (order .entry)) (now (records .exit)) [] ≡ raisedOne «max_ack» «latest_ts» i (lists (now (order .entry)) (now (records .entry)) []) ⌝ }
-{
-    let flight = flight_of(order, records, i);
-    let slot = slots::slot_of(order[i]);
-    lent::put_number(
+    let flight = Flight {
+        number: snd_ring::number_at(records, slots, q, SN),
+        ts: snd_ring::number_at(records, slots, q, TS),
+        fastack: snd_ring::number_at(records, slots, q, FASTACK),
+    };
+    snd_ring::put_number(
         records,
-        8,
-        slot,
-        6,
+        slots,
+        q,
+        FASTACK,
         sending::fastack_of(flight, max_ack, latest_ts),
     );
 }
 
-// The same of the `count` segments in flight, front to back.
-fn raise(order: &[u32], records: &mut [u32], count: usize, max_ack: u32, latest_ts: u32)
-    requires { ⌜ count ≤ length (now order) ⌝ }
-    requires { ⌜ ((i : ℕ) → i < count → slotOf (getD (now order) i 0) * 8 + 8 ≤ length (now records)) ⌝ }
-    ensures { λ _. ⌜ lists (now (order .entry)) (now (records .exit)) [] ≡ raisedFrom «max_ack» «latest_ts» count 0 (lists (now (order .entry)) (now (records .entry)) []) ⌝ }
+// The same of the segments in flight, front to back.
+fn raise(ring: SndRing, records: &mut [u32], max_ack: u32, latest_ts: u32)
+    requires { ⌜ length (now records) / 9 ≤ 65535 ⌝ }
+    requires { ⌜ ring .start < length (now records) / 9 ⌝ }
+    requires { ⌜ ring .reach ≤ length (now records) / 9 ⌝ }
+    ensures { λ _. ⌜ ((room : List ℕ) → storeOf 8 (lists (now (records .exit)) room) ≡ raisedFrom «max_ack» «latest_ts» ring 0 (ring .reach) (storeOf 8 (lists (now (records .entry)) room))) ⌝ }
 {
+    let reach = ring.reach as usize;
     let mut i = 0;
-    while i < count {
-        raise_one(order, records, i, max_ack, latest_ts);
+    while i < reach {
+        raise_one(ring, records, i, max_ack, latest_ts);
         i += 1;
     }
 }
 
 // What the acks of a datagram do to the flight records, if the highest of them is in flight.
-pub fn parse_fastack(sender: Sender, order: &[u32], records: &mut [u32], latest: Latest)
-    requires { ⌜ Lies sender (now order) (now records) ⌝ }
-    ensures { λ _. ⌜ lists (now (order .entry)) (now (records .exit)) [] ≡ fastackAt latest sender (lists (now (order .entry)) (now (records .entry)) []) ⌝ }
+pub fn parse_fastack(sender: Sender, records: &mut [u32], latest: Latest)
+    requires { ⌜ Lies sender (now records) ⌝ }
+    ensures { λ _. ⌜ ((room : List ℕ) → storeOf 8 (lists (now (records .exit)) room) ≡ fastackAt latest sender (storeOf 8 (lists (now (records .entry)) room))) ⌝ }
 {
     if latest.counts(sender.snd_una, sender.snd_nxt) {
-        raise(order, records, sender.flying as usize, latest.sn, latest.ts);
+        raise(sender.ring, records, latest.sn, latest.ts);
     }
 }
 
-// Whether the numbers of the block fit, and send memory of these lengths.
-fn numbers_fit(block: Kcp, slots: usize, records: usize, room: usize) -> bool
-    ensures { λ r. ⌜ r ≡ (sendSizes slots records room && (ownNumbers block && sendNumbers slots (block .sender))) ⌝ }
+// Whether the send memory is well formed.
+pub fn lent_fits(sender: Sender, records: &[u32], room: &[u8]) -> bool
+    ensures { λ r. ⌜ r ≡ sendLent sender (lists (now (records .entry)) (now (room .entry))) ⌝ }
 {
-    if !send_sizes(slots, records, room) {
+    if !send_sizes(records.len(), room.len()) {
         return false;
     }
+    let slots = snd_ring::slots_in(records.len());
+    if !sender.send_numbers(slots) {
+        return false;
+    }
+    snd_ring::marks_fit(sender.ring, &records[0..slots])
+}
+
+// Whether block and send memory are well formed.
+pub fn fits(block: Kcp, records: &[u32], room: &[u8]) -> bool
+    ensures { λ r. ⌜ r ≡ sendFits block (lists (now (records .entry)) (now (room .entry))) ⌝ }
+    ensures { λ r. ⌜ (r ≡ true → Sound 8 (block .sender .ring) (storeOf 8 (lists (now (records .entry)) (now (room .entry))))) ⌝ }
+{
     if !block.own_numbers() {
         return false;
     }
-    block.sender.send_numbers(slots)
-}
-
-// Whether block and send pool are well formed.
-pub fn fits(block: Kcp, order: &[u32], records: &[u32], room: &[u8]) -> bool
-    ensures { λ r. ⌜ r ≡ sendFits block (lists (now (order .entry)) (now (records .entry)) (now (room .entry))) ⌝ }
-    ensures { λ r. ⌜ (r ≡ true → SendFits block (lists (now (order .entry)) (now (records .entry)) (now (room .entry)))) ⌝ }
-{
-    if !numbers_fit(block, order.len(), records.len(), room.len()) {
-        return false;
-    }
-    let n = block.sender.segments();
-    slots::sound(order, records, room, Kcp::SND_RECORD, n)
+    lent_fits(block.sender, records, room)
 }
