@@ -1,0 +1,6 @@
+pub mod Spans
+pub mod Words
+pub mod Tests
+pub mod Steps
+pub mod Stores
+pub mod Keeps
