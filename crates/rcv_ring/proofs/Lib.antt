@@ -4,3 +4,4 @@ pub mod Tests
 pub mod Steps
 pub mod Stores
 pub mod Keeps
+pub mod Copies

@@ -11,6 +11,7 @@ use lib.ListN.{length, take, drop}
 use lib.Seq.{take-at, drop-at}
 use lib.Dec.{eqb}
 use borrow.Author.Tests.{lt-ltb, le-ltb, eq-eqb, ne-eqb}
+use Rattle.ring.specs.Places.{summed, along}
 use Rattle.ring.proofs.Places.{by-less}
 use Rattle.rcv_ring.specs.Views.{Content, held, span, kept, putBy, closer, isThere, leading}
 
@@ -64,6 +65,17 @@ pub map-span : {A B : Type 0} (g : A → B) (f : ℕ → A) (a n : ℕ) → map 
 unfolding span
 map-span g f a zero = refl
 map-span g f a (suc n) = ap (λ l. g (f a) ∷ l) (map-span g f (suc a) n)
+
+-- what is seen along the indices, by a sum or a join over the span
+pub along-span : (j : List (List ℕ) → List ℕ) → j [] ≡ [] → ((x : List ℕ) (l : List (List ℕ)) → j (x ∷ l) ≡ x ++ j l) → (f : ℕ → List ℕ) (a n : ℕ) → along f a n ≡ j (span f a n)
+unfolding along span
+along-span j e h f a zero = sym e
+along-span j e h f a (suc n) = rw (h (f a) (span f (suc a) n), along-span j e h f (suc a) n)
+
+pub summed-span : (j : List ℕ → ℕ) → j [] ≡ 0 → ((x : ℕ) (l : List ℕ) → j (x ∷ l) ≡ x + j l) → (f : ℕ → ℕ) (a n : ℕ) → summed f a n ≡ j (span f a n)
+unfolding summed span
+summed-span j e h f a zero = sym e
+summed-span j e h f a (suc n) = rw (h (f a) (span f (suc a) n), summed-span j e h f (suc a) n)
 
 -- ---- `kept`
 
