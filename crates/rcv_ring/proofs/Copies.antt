@@ -8,7 +8,7 @@ use lib.ListN.{length, take, length-append}
 use Rattle.ring.specs.Lists.{Lists}
 use Rattle.ring.specs.Records.{put}
 use Rattle.ring.specs.Places.{place, summed, along}
-use Rattle.ring.proofs.Places.{place-in, along-last, along-size}
+use Rattle.ring.proofs.Places.{place-in, summed-last, summed-within, along-last, along-size}
 use Rattle.ring.proofs.Rows.{row-in, part-length, put-length, put-put}
 use Rattle.rcv_ring.specs.declared.RcvRing.{RcvRing}
 use Rattle.rcv_ring.specs.Places.{frgAt, sizeAt, payloadAt, Sound}
@@ -26,17 +26,19 @@ pub copied-none : (f : ℕ → List ℕ) (l : List ℕ) → Copied f l l 0 0
 unfolding put along
 copied-none f l = record { size = refl; same = refl; bytes = refl }
 
-pub copied-next : (f : ℕ → List ℕ) (before after last : List ℕ) (to i : ℕ) → Copied f before after to i → to + length (f i) ≤ length before → last ≡ put after to (f i)
-    → Copied f before last (to + length (f i)) (i + 1)
-copied-next f before after last to i c room e =
+-- x, of n bytes, is the next
+pub copied-next : (f : ℕ → List ℕ) (before after last x : List ℕ) (to n i : ℕ) → Copied f before after to i → x ≡ f i → n ≡ length (f i) → to + n ≤ length before → last ≡ put after to x
+    → Copied f before last (to + n) (i + 1)
+copied-next f before after last x to n i c p q room e =
     let a = c .size in
     let b = c .same in
+    let d = e ∙ ap (put after to) p in
     let m : along f 0 (i + 1) ≡ along f 0 i ++ f i = rw zero-add at (along-last f 0 i) in
     let z : to ≡ 0 + length (along f 0 i) = omega arith in
     record {
       size = rw (m, length-append) (omega arith);
-      same = rw e (put-length after to (f i) (omega arith) ∙ c .same);
-      bytes = e ∙ rw (c .bytes, z, m) (put-put before 0 (along f 0 i) (f i) (omega arith));
+      same = rw d (put-length after to (f i) (omega arith) ∙ c .same);
+      bytes = d ∙ rw (c .bytes, z, m) (put-put before 0 (along f 0 i) (f i) (omega arith));
     }
 
 -- ---- what is read is what the queue holds
@@ -56,14 +58,18 @@ module _ (r : RcvRing) (l : Lists) where
   queue-along j e f k h = rw (queue-firsts k h, map-span) (along-span j e f (payloadAt r l) 0 k)
 
   module _ (w : Sound r l) where
+    pub slot-in : (i : ℕ) → i < r .queued + r .reach → place (length (l .records)) (r .start) i * 1476 + 1476 ≤ length (l .room)
+    slot-in i h =
+        let s = w .shaped in
+        let b = s .within in
+        row-in 1476 (place (length (l .records)) (r .start) i) (length (l .records)) (l .room) (s .room-size) (place-in (length (l .records)) (r .start) i (s .started) (omega arith))
+
     -- the payload at an index has as many bytes as its mark says
     pub payload-size : (i : ℕ) → i < r .queued + r .reach → length (payloadAt r l i) ≡ sizeAt r (l .records) i
     unfolding payloadAt
     payload-size i h =
-        let s = w .shaped in
-        let b = s .within in
         let m = w .marked .short i h in
-        let p = row-in 1476 (place (length (l .records)) (r .start) i) (length (l .records)) (l .room) (s .room-size) (place-in (length (l .records)) (r .start) i (s .started) (omega arith)) in
+        let p = slot-in i h in
         part-length (l .room) (place (length (l .records)) (r .start) i * 1476 + 0) (sizeAt r (l .records) i) (omega arith)
 
     pub queue-length : (k : ℕ) → k ≤ r .queued → length (along (payloadAt r l) 0 k) ≡ summed (sizeAt r (l .records)) 0 k
@@ -76,3 +82,12 @@ module _ (r : RcvRing) (l : Lists) where
         summed-span j e f (sizeAt r (l .records)) 0 k
         ∙ rw (queue-firsts k h, map-span)
         (ap j (span-same (sizeAt r (l .records)) (λ (i : ℕ). length (payloadAt r l i)) 0 0 k (λ i a. sym (payload-size (0 + i) (omega arith)))))
+
+    -- one more of the first k fits where they all do
+    pub next-fits : (k : ℕ) → k ≤ r .queued → (i to : ℕ) → i < k → to ≡ length (along (payloadAt r l) 0 i) → to + sizeAt r (l .records) i ≤ summed (sizeAt r (l .records)) 0 k
+    next-fits k h i to a e =
+        let f = sizeAt r (l .records) in
+        let n = queue-length i (omega arith) in
+        let m : summed f 0 (i + 1) ≡ summed f 0 i + f i = rw zero-add at (summed-last f 0 i) in
+        let u = summed-within f 0 (i + 1) k (omega arith) in
+        omega arith

@@ -3,8 +3,11 @@ use Prim.Native.Nat.{ℕ, zero, suc, _+_, _-_, _≤_, _<_}
 use native.Mathlib.Omega.{arith}
 use native.Mathlib.Numerals.{add-one}
 use mathlib.Core.Path.{_≡_, refl, ap, _∙_}
+use mathlib.Core.Bool.{not}
 use mathlib.Core.List.{List}
 use lib.ListN.{length, set, length-set}
+use lib.Dec.{leb, eqb}
+use borrow.Author.Tests.{le-leb, lt-leb, eq-eqb, ne-eqb}
 use lib.Seq.{getD-set-same, getD-set-other}
 use Rattle.ring.specs.Lists.{Lists, lists}
 use Rattle.ring.specs.Places.{place}
@@ -22,6 +25,11 @@ word-mark frg n h = omega arith
 
 pub word-frg : (frg n : ℕ) → frg < 65536 → frgOf (word frg n) ≡ frg
 word-frg frg n h = omega arith
+
+-- a word of 65,536 or more is a segment
+pub marked-is : (w : ℕ) → leb 65536 w ≡ not (eqb (markOf w) 0)
+marked-is w =
+    by-less w 65536 (λ h. rw (lt-leb 65536 w h, eq-eqb (markOf w) 0 (omega arith))) (λ h. rw (le-leb 65536 w h, ne-eqb (markOf w) 0 (λ z. omega arith)))
 
 -- ---- `clear`: one index less
 
