@@ -18,13 +18,13 @@ loop-holds : tie.Need-loop-holds Inv-loop μ-loop
 loop-holds c = let a = c .before .before .before .args in (omega arith, copied-none (payloadAt (a .ring) (lists (a .records .now) (a .room .now))) (a .out .now))
 
 size-at-requires : tie.Need-size-at-requires Inv-loop μ-loop
-size-at-requires c κs = let w = c .before .before .before .before .before .pre .0 in let s = w .shaped in let b = s .within in (s .many, (s .started, omega arith))
+size-at-requires c κs = omega arith
 
 cast-place-of : tie.Need-cast-place-of Inv-loop μ-loop
 cast-place-of c = omega arith
 
 place-of-requires : tie.Need-place-of-requires Inv-loop μ-loop
-place-of-requires c κs = let w = c .before .before .before .before .before .before .before .pre .0 in let s = w .shaped in let b = s .within in (s .many, (s .started, omega arith))
+place-of-requires c κs = omega arith
 
 get-payload-requires : tie.Need-get-payload-requires Inv-loop μ-loop
 get-payload-requires c κs =
