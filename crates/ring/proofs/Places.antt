@@ -105,6 +105,13 @@ summed-at f from n i a b =
     let u = summed-first f i (n - suc (i - from)) in
     omega arith
 
+-- and no less than the sum over fewer
+pub summed-within : (f : ℕ → ℕ) (from n k : ℕ) → n ≤ k → summed f from n ≤ summed f from k
+summed-within f from n k h =
+    let q : k ≡ n + (k - n) = omega arith in
+    let e = ap (summed f from) q ∙ summed-add f from n (k - n) in
+    omega arith
+
 -- where each is at most 1 and they sum up to their number, each is 1
 pub summed-full : (f : ℕ → ℕ) (from n : ℕ) → ((i : ℕ) → f i ≤ 1) → summed f from n ≡ n → (i : ℕ) → from ≤ i → i < from + n → f i ≡ 1
 summed-full f from n h e i a b =
@@ -163,7 +170,12 @@ module _ {A : Type 0} where
   unfolding along
   along-first f from n = refl
 
-  pub along-length : (f : ℕ → List A) (g : ℕ → ℕ) (from n : ℕ) → ((i : ℕ) → length (f i) ≡ g i) → length (along f from n) ≡ summed g from n
+  -- the sizes need agree only where they are summed
+  pub along-size : (f : ℕ → List A) (g : ℕ → ℕ) (from n : ℕ) → ((i : ℕ) → from ≤ i → i < from + n → length (f i) ≡ g i) → length (along f from n) ≡ summed g from n
   unfolding along summed
-  along-length f g from zero h = refl
-  along-length f g from (suc n) h = rw (length-append, h from, along-length f g (suc from) n h)
+  along-size f g from zero h = refl
+  along-size f g from (suc n) h =
+      rw (length-append, h from (omega arith) (omega arith), along-size f g (suc from) n (λ i a b. h i (omega arith) (omega arith)))
+
+  pub along-length : (f : ℕ → List A) (g : ℕ → ℕ) (from n : ℕ) → ((i : ℕ) → length (f i) ≡ g i) → length (along f from n) ≡ summed g from n
+  along-length f g from n h = along-size f g from n (λ i a b. h i)

@@ -30,6 +30,17 @@ pub part-part : (l : List ℕ) (at n m : ℕ) → part l at (n + m) ≡ part l a
 unfolding part
 part-part l at n m = rw (take-add, drop-drop)
 
+-- two puts end to end are one
+pub put-put : (l : List ℕ) (at : ℕ) (x y : List ℕ) → at + length x ≤ length l → put (put l at x) (at + length x) y ≡ put l at (x ++ y)
+unfolding put
+put-put l at x y h =
+    let e : length (take at l ++ x) ≡ at + length x = rw (length-append, length-take-le at l (omega arith)) in
+    let d : at + (length x + length y) ≡ (at + length x) + length y = omega arith in
+    let f : take (at + length x) ((take at l ++ x) ++ drop (at + length x) l) ≡ take at l ++ x = take-at (take at l ++ x) _ _ e in
+    let g : drop ((at + length x) + length y) ((take at l ++ x) ++ drop (at + length x) l) ≡ drop ((at + length x) + length y) l =
+    rw (← e) (drop-append-add (take at l ++ x) (drop (length (take at l ++ x)) l) (length y) ∙ drop-drop (length y) (length (take at l ++ x)) l) in
+    rw (length-append, ← append-assoc (take at l) x, f, g, d, append-assoc, append-assoc)
+
 -- ---- what was put is got, and what stands before and after it stays
 
 module _ (l : List ℕ) (at : ℕ) (x : List ℕ) where
