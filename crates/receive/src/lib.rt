@@ -2,7 +2,7 @@
 // is well formed; the public calls test that and then act.
 ghost use mathlib.Core.Path.{_≡_};
 ghost use mathlib.Core.Bool.{true};
-ghost use Prim.Native.Nat.{_-_, _≤_, max};
+ghost use Prim.Native.Nat.{_-_, _<_, _≤_, max};
 ghost use lib.ListN.{length};
 ghost use Rattle.serial.specs.Window.{inWindow};
 ghost use Rattle.ring.specs.Lists.{lists};
