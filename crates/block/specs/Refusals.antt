@@ -27,6 +27,7 @@ use Rattle.block.specs.declared.refusal.Answer.the-variants.{Done, Refus
 use Rattle.block.specs.declared.refusal.Bytes.{Bytes}
 use Rattle.block.specs.declared.refusal.Bytes.the-variants.{Are, Refused as NoBytes}
 use Rattle.block.specs.declared.refusal.Values.{Values}
+use Rattle.wire.specs.Helpers.{sixteen}
 
 abbrev pub numberOf : Refusal → ℕ
 numberOf (InvalidSegmentSize size) = 1
@@ -44,7 +45,7 @@ numberOf SendPoolFull = 12
 numberOf OutTooSmall = 13
 numberOf WindowTooLarge = 14
 numberOf BadPool = 15
-numberOf ShortHeader = 16
+numberOf ShortHeader = sixteen
 
 abbrev pub valuesOf : Refusal → List ℕ
 valuesOf (InvalidSegmentSize size) = size ∷ []

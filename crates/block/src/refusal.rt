@@ -62,7 +62,7 @@ impl Refusal {
             Refusal::OutTooSmall => 13,
             Refusal::WindowTooLarge => 14,
             Refusal::BadPool => 15,
-            Refusal::ShortHeader => 16,
+            Refusal::ShortHeader => wire::SHORT_HEADER,
         }
     }
 

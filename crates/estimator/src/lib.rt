@@ -2,9 +2,6 @@
 ghost use mathlib.Core.Path.{_≡_};
 ghost use Rattle.estimator.specs.Estimate.{fresh, apart, timed, measured, acked};
 
-// The longest timeout.
-const RTO_MAX: u32 = 60_000;
-
 // The smoothed time (0: not measured yet), the spread, the timeout and the least timeout: rx_srtt, rx_rttval, rx_rto and rx_minrto.
 pub struct Estimator {
     pub srtt: u32,
@@ -21,6 +18,13 @@ fn apart(a: u32, b: u32) -> u32
 }
 
 impl Estimator {
+    // The timeout and the least timeout of a fresh block, and the longest.
+    pub const RTO_DEF: u32 = 200;
+
+    pub const RTO_MIN: u32 = 100;
+
+    pub const RTO_MAX: u32 = 60_000;
+
     // The estimator of a fresh block.
     pub fn new() -> Estimator
         ensures { λ r. ⌜ r ≡ fresh ⌝ }
@@ -28,8 +32,8 @@ impl Estimator {
         Estimator {
             srtt: 0,
             rttval: 0,
-            rto: 200,
-            minrto: 100,
+            rto: Estimator::RTO_DEF,
+            minrto: Estimator::RTO_MIN,
         }
     }
 
@@ -42,7 +46,7 @@ impl Estimator {
         Estimator {
             srtt: srtt,
             rttval: rttval,
-            rto: serial::bound(low, wait, RTO_MAX),
+            rto: serial::bound(low, wait, Estimator::RTO_MAX),
             minrto: low,
         }
     }

@@ -6,7 +6,7 @@ use mathlib.Core.Path.{_≡_, refl, sym, ap, _∙_, subst}
 use mathlib.Core.List.{List, [], _∷_, _++_}
 use lib.ListN.{length, getD, take, drop, length-drop}
 use lib.Seq.{drop-cons, getD-drop, length-take-le, take-add, drop-drop}
-use Rattle.wire.specs.LittleEndian.{number, leAt, leBytes, Bytes}
+use Rattle.wire.specs.LittleEndian.{number, leAt, leBytes, Octets}
 
 pub length-leBytes : (n x : ℕ) → length (leBytes n x) ≡ n
 length-leBytes zero x = refl
@@ -19,7 +19,7 @@ number-leBytes (suc n) x h =
     let e = number-leBytes n (x / 256) (div-lt-iff-lt-mul (omega arith) .1 (rw (pow-suc 256 n) at h)) in omega arith
 
 -- bytes are those of their number
-pub leBytes-number : (l : List ℕ) → Bytes l → leBytes (length l) (number l) ≡ l
+pub leBytes-number : (l : List ℕ) → Octets l → leBytes (length l) (number l) ≡ l
 leBytes-number [] h = refl
 leBytes-number (b ∷ l) h =
     let m = number l in
@@ -28,18 +28,18 @@ leBytes-number (b ∷ l) h =
     rw (low, high, leBytes-number l (λ k. h (suc k)))
 
 -- n bytes make a number below 256^n
-pub number-below : (l : List ℕ) → Bytes l → number l < 256 ^ length l
+pub number-below : (l : List ℕ) → Octets l → number l < 256 ^ length l
 number-below [] h = omega arith
 number-below (b ∷ l) h = let k : b < 256 = h 0 in let m = number-below l (λ i. h (suc i)) in rw (pow-suc 256 (length l)) (omega arith)
 
 -- a part of bytes is bytes
-pub bytes-take : (n : ℕ) (l : List ℕ) → Bytes l → Bytes (take n l)
+pub bytes-take : (n : ℕ) (l : List ℕ) → Octets l → Octets (take n l)
 bytes-take zero l h k = omega arith
 bytes-take (suc n) [] h k = omega arith
 bytes-take (suc n) (b ∷ l) h zero = h 0
 bytes-take (suc n) (b ∷ l) h (suc k) = bytes-take n l (λ i. h (suc i)) k
 
-pub bytes-drop : (n : ℕ) (l : List ℕ) → Bytes l → Bytes (drop n l)
+pub bytes-drop : (n : ℕ) (l : List ℕ) → Octets l → Octets (drop n l)
 bytes-drop n l h k = rw getD-drop (h (n + k))
 
 module _ (s : List ℕ) where
@@ -51,18 +51,18 @@ module _ (s : List ℕ) where
   part-length n p h = length-take-le n (drop p s) (simp length-drop (omega arith))
 
   -- what was read at p, written, is the bytes that stand there
-  pub written-read : (n p : ℕ) → p + n ≤ length s → Bytes s → leBytes n (leAt n s p) ≡ take n (drop p s)
+  pub written-read : (n p : ℕ) → p + n ≤ length s → Octets s → leBytes n (leAt n s p) ≡ take n (drop p s)
   written-read n p h b =
       subst (λ (k : ℕ). leBytes k (leAt n s p) ≡ take n (drop p s)) (part-length n p h)
       (leBytes-number (take n (drop p s)) (bytes-take n (drop p s) (bytes-drop p s b)))
 
   -- what was read at p is below 256^n
-  pub leAt-below : (n p : ℕ) → p + n ≤ length s → Bytes s → leAt n s p < 256 ^ n
+  pub leAt-below : (n p : ℕ) → p + n ≤ length s → Octets s → leAt n s p < 256 ^ n
   leAt-below n p h b =
       subst (λ (k : ℕ). leAt n s p < 256 ^ k) (part-length n p h) (number-below (take n (drop p s)) (bytes-take n (drop p s) (bytes-drop p s b)))
 
   -- what was read at p, written, and then the m bytes from q on, are the n + m bytes at p
-  pub written-more : (n p q m : ℕ) {rest : List ℕ} → p + n ≡ q → q ≤ length s → Bytes s → rest ≡ take m (drop q s)
+  pub written-more : (n p q m : ℕ) {rest : List ℕ} → p + n ≡ q → q ≤ length s → Octets s → rest ≡ take m (drop q s)
       → leBytes n (leAt n s p) ++ rest ≡ take (n + m) (drop p s)
   written-more n p q m {rest} e h b r =
       ap (λ (l : List ℕ). l ++ rest) (written-read n p (omega arith) b)

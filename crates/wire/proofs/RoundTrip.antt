@@ -7,7 +7,7 @@ use mathlib.Core.List.{List, _++_}
 use lib.ListN.{length, take, drop}
 use lib.Seq.{getD-drop, drop-drop, drop-append-seam}
 use Rattle.wire.specs.declared.Header.{Header}
-use Rattle.wire.specs.LittleEndian.{Bytes}
+use Rattle.wire.specs.LittleEndian.{Octets}
 use Rattle.wire.specs.Header.{headerAt, headerBytes, Fit}
 use Rattle.wire.proofs.LittleEndian.{number-leBytes, written-read, written-more, byte-more, leAt-below}
 
@@ -37,7 +37,7 @@ read-written p h rest f =
     headerAt-drop (p ++ (headerBytes h ++ rest)) (length p)
     ∙ ap (λ (l : List ℕ). headerAt l 0) (drop-append-seam p (headerBytes h ++ rest)) ∙ at-zero h rest f
 
-pub written-read-header : (s : List ℕ) (at : ℕ) → at + 24 ≤ length s → Bytes s → headerBytes (headerAt s at) ≡ take 24 (drop at s)
+pub written-read-header : (s : List ℕ) (at : ℕ) → at + 24 ≤ length s → Octets s → headerBytes (headerAt s at) ≡ take 24 (drop at s)
 unfolding headerAt headerBytes
 written-read-header s at h b =
     written-more s 4 at (at + 4) 20 (omega arith) (omega arith) b
@@ -50,7 +50,7 @@ written-read-header s at h b =
     (written-read s 4 (at + 20) (omega arith) b)))))))
 
 -- the numbers of a header that was read fit it
-pub headerAt-fit : (s : List ℕ) (at : ℕ) → at + 24 ≤ length s → Bytes s → Fit (headerAt s at)
+pub headerAt-fit : (s : List ℕ) (at : ℕ) → at + 24 ≤ length s → Octets s → Fit (headerAt s at)
 unfolding headerAt
 headerAt-fit s at h b = record {
   conv = leAt-below s 4 at (omega arith) b;

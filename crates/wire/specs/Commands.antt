@@ -3,7 +3,9 @@ use Prim.Native.Nat.{ℕ}
 use lib.Dec.{eqb}
 use Rattle.serial.specs.Branch.{pick}
 use Rattle.wire.specs.declared.Kind.{Kind}
-use Rattle.wire.specs.declared.Kind.the-variants.{Push, Ack, Ask, Tell, Other}
+use Rattle.wire.specs.declared.Kind.the-variants.{Push, Ack, Ask, Tell}
+use Rattle.wire.specs.declared.Command.{Command}
+use Rattle.wire.specs.declared.Command.the-variants.{Known, Unknown}
 
 abbrev pub push : ℕ
 push = 81
@@ -17,14 +19,19 @@ ask = 83
 abbrev pub tell : ℕ
 tell = 84
 
--- the kind of a cmd
-unfoldable pub kindOf : ℕ → Kind
-kindOf cmd = pick (eqb cmd push) Push (pick (eqb cmd ack) Ack (pick (eqb cmd ask) Ask (pick (eqb cmd tell) Tell (Other cmd))))
+-- what a cmd says
+unfoldable pub commandOf : ℕ → Command
+commandOf cmd =
+    pick (eqb cmd push) (Known Push) (pick (eqb cmd ack) (Known Ack) (pick (eqb cmd ask) (Known Ask) (pick (eqb cmd tell) (Known Tell) (Unknown cmd))))
 
 -- the cmd of a kind
-abbrev pub commandOf : Kind → ℕ
-commandOf Push = push
-commandOf Ack = ack
-commandOf Ask = ask
-commandOf Tell = tell
-commandOf (Other cmd) = cmd
+abbrev pub cmdOf : Kind → ℕ
+cmdOf Push = push
+cmdOf Ack = ack
+cmdOf Ask = ask
+cmdOf Tell = tell
+
+-- the cmd that says it
+abbrev pub saidBy : Command → ℕ
+saidBy (Known kind) = cmdOf kind
+saidBy (Unknown cmd) = cmd

@@ -14,14 +14,18 @@ use Rattle.wire.specs.declared.Put.the-variants.{Done, ShortHeader as Pu
 use Rattle.wire.specs.LittleEndian.{leBytes}
 use Rattle.wire.specs.Header.{headerAt}
 
+-- the number of ShortHeader
+abbrev pub sixteen : ℕ
+sixteen = 16
+
 -- "16 .. on under 24 bytes", and 0 where nothing is refused
 unfoldable pub shortHeader : List ℕ → ℕ
-shortHeader s = pick (ltb (length s) 24) 16 0
+shortHeader s = pick (ltb (length s) 24) sixteen 0
 
 -- the number of each answer, 0 where nothing is refused, and its values
 abbrev pub numberOf : Number → ℕ
 numberOf (Is n) = 0
-numberOf ShortHeader = 16
+numberOf ShortHeader = sixteen
 
 abbrev pub valuesOf : Number → List ℕ
 valuesOf (Is n) = n ∷ []
@@ -30,7 +34,7 @@ valuesOf ShortHeader = []
 -- likewise of a helper that sets; neither of its answers carries a value
 abbrev pub numberOfPut : Put → ℕ
 numberOfPut Done = 0
-numberOfPut PutShortHeader = 16
+numberOfPut PutShortHeader = sixteen
 
 abbrev pub valuesOfPut : Put → List ℕ
 valuesOfPut Done = []

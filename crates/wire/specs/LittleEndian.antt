@@ -20,8 +20,8 @@ leBytes zero x = []
 leBytes (suc n) x = (x % 256) ∷ leBytes n (x / 256)
 
 -- each is a byte, as in any slice of u8
-abbrev pub Bytes : List ℕ → Type 0
-Bytes l = (k : ℕ) → getD l k 0 < 256
+abbrev pub Octets : List ℕ → Type 0
+Octets l = (k : ℕ) → getD l k 0 < 256
 
 -- the four bytes of x in a row
 pub record Split (x : ℕ) (w : Four) : Type 0 where

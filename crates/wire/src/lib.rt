@@ -5,7 +5,7 @@ ghost use mathlib.Core.List.{[], _∷_};
 ghost use lib.ListN.{length};
 ghost use Rattle.wire.specs.LittleEndian.{number, leAt, Split};
 ghost use Rattle.wire.specs.Header.{headerAt, headerBytes, convOf, snOf};
-ghost use Rattle.wire.specs.Commands.{kindOf, commandOf};
+ghost use Rattle.wire.specs.Commands.{commandOf, cmdOf};
 ghost use Rattle.wire.specs.Helpers.{Got, ConvSet};
 
 // cmd: push, ack, window ask and window tell.
@@ -20,14 +20,22 @@ pub const TELL: u8 = 84;
 // The bytes of a header.
 pub const OVERHEAD: usize = 24;
 
-// What a cmd asks for; any other number is none of the four.
+// What a segment is for.
 pub enum Kind {
     Push,
     Ack,
     Ask,
     Tell,
-    Other(u8),
 }
+
+// What a cmd says: one of the four kinds, or none of them.
+pub enum Command {
+    Known { kind: Kind },
+    Unknown { cmd: u8 },
+}
+
+// Refusal 16 of the scope document: under 24 bytes.
+pub const SHORT_HEADER: u32 = 16;
 
 pub struct Header {
     pub conv: u32,
@@ -60,29 +68,28 @@ struct Four {
     b3: u8,
 }
 
-// The kind of a cmd.
-pub fn kind_of(cmd: u8) -> Kind
-    ensures { λ r. ⌜ r ≡ kindOf cmd ⌝ }
+// The kind of a cmd, if it is one of the four.
+pub fn command_of(cmd: u8) -> Command
+    ensures { λ r. ⌜ r ≡ commandOf cmd ⌝ }
 {
     match cmd {
-        PUSH => Kind::Push,
-        ACK => Kind::Ack,
-        ASK => Kind::Ask,
-        TELL => Kind::Tell,
-        _ => Kind::Other(cmd),
+        PUSH => Command::Known { kind: Kind::Push },
+        ACK => Command::Known { kind: Kind::Ack },
+        ASK => Command::Known { kind: Kind::Ask },
+        TELL => Command::Known { kind: Kind::Tell },
+        _ => Command::Unknown { cmd: cmd },
     }
 }
 
 // The cmd of a kind.
-pub fn command(kind: Kind) -> u8
-    ensures { λ r. ⌜ r ≡ commandOf kind ⌝ }
+pub fn cmd_of(kind: Kind) -> u8
+    ensures { λ r. ⌜ r ≡ cmdOf kind ⌝ }
 {
     match kind {
         Kind::Push => PUSH,
         Kind::Ack => ACK,
         Kind::Ask => ASK,
         Kind::Tell => TELL,
-        Kind::Other(cmd) => cmd,
     }
 }
 
