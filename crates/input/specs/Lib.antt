@@ -1,4 +1,2 @@
 pub mod Segment
 pub mod Datagram
-pub mod Fits
-pub mod Examples
