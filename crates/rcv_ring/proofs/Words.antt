@@ -78,6 +78,11 @@ run l s i a n h k u e =
     (λ x f. by-place (length l) s (i + q) (λ y g. omega arith) (λ y g. omega arith))
     (λ x f. by-place (length l) s (i + q) (λ y g. omega arith) (λ y g. omega arith)))
 
+-- where the ring goes round its end
+round : (p s i a : ℕ) → s < p → a ≡ place p s i → i + (p - a) ≤ p → 0 ≡ place p s (i + (p - a))
+round p s i a h e k =
+    by-place p s i (λ x u. by-place p s (i + (p - a)) (λ y v. omega arith) (λ y v. omega arith)) (λ x u. by-place p s (i + (p - a)) (λ y v. omega arith) (λ y v. omega arith))
+
 module _ (l : List ℕ) (s i n a : ℕ) (h : s < length l) (k : i + n ≤ length l) (e : a ≡ place (length l) s i) where
   pub clear-one : n ≤ length l - a → cleared 0 a (a + n - a) l ≡ cleared s i n l
   clear-one b =
@@ -92,9 +97,7 @@ module _ (l : List ℕ) (s i n a : ℕ) (h : s < length l) (k : i + n ≤ length
       let y : n - m - 0 ≡ n - m = omega arith in
       let z : n ≡ m + (n - m) = omega arith in
       let g = cleared-length s i m l in
-      let v : 0 ≡ place (length (cleared s i m l)) s (i + m) = rw g (by-place (length l) s i
-      (λ x p. by-place (length l) s (i + m) (λ y q. omega arith) (λ y q. omega arith))
-      (λ x p. by-place (length l) s (i + m) (λ y q. omega arith) (λ y q. omega arith))) in
+      let v : 0 ≡ place (length (cleared s i m l)) s (i + m) = rw g (round (length l) s i a h e (omega arith)) in
       rw (y, run l s i a m h (omega arith) (omega arith) e) (run (cleared s i m l) s (i + m) 0 (n - m) (omega arith) (omega arith) (omega arith) v)
       ∙ sym (ap (λ (x : ℕ). cleared s i x l) z ∙ cleared-add s i m (n - m) l)
 
