@@ -128,40 +128,31 @@ module _ (m : ℕ → ℕ) (s : ℕ → Content) where
       go r (yes z) = rw (skip d n z) r
       go r (no z) = rw (keep d n z, lt-ltb e d h)
 
-  -- whether distance e is held
-  pub held-is : (e d n : ℕ) → d ≤ e → e < d + n → not (eqb (m e) 0) ≡ isThere e (kept m s d n)
+  -- a distance that is not among them
+  pub held-out : (e d n : ℕ) → (d ≤ e → e < d + n → ⊥) → isThere e (kept m s d n) ≡ false
+  unfolding isThere
+  held-out e d zero h = rw (empty d)
+  held-out e d (suc n) h = go (held-out e (suc d) n (λ a b. h (omega arith) (omega arith))) (ℕ-discrete (m d) 0)
+    where
+      go : isThere e (kept m s (suc d) n) ≡ false → Dec (m d ≡ 0) → isThere e (kept m s d (suc n)) ≡ false
+      go r (yes z) = rw (skip d n z) r
+      go r (no z) = rw (keep d n z, ne-eqb d e (λ q. h (omega arith) (omega arith))) r
+
+  -- one that is, by its mark
+  pub held-is : (e d n : ℕ) → d ≤ e → e < d + n → isThere e (kept m s d n) ≡ not (eqb (m e) 0)
   unfolding isThere
   held-is e d zero a b = absurd (omega arith)
   held-is e d (suc n) a b = go (λ l. held-is e (suc d) n l (omega arith)) (ℕ-discrete (m d) 0) (decLt d e)
     where
-      far : (j k : ℕ) → e < j → isThere e (kept m s j k) ≡ false
-      far j zero h = rw (empty j)
-      far j (suc k) h = step (far (suc j) k (omega arith)) (ℕ-discrete (m j) 0)
-        where
-          step : isThere e (kept m s (suc j) k) ≡ false → Dec (m j ≡ 0) → isThere e (kept m s j (suc k)) ≡ false
-          step r (yes z) = rw (skip j k z) r
-          step r (no z) = rw (keep j k z, ne-eqb j e (λ q. omega arith)) r
-
-      go : (suc d ≤ e → not (eqb (m e) 0) ≡ isThere e (kept m s (suc d) n)) → Dec (m d ≡ 0) → Dec (d < e) → not (eqb (m e) 0) ≡ isThere e (kept m s d (suc n))
+      go : (suc d ≤ e → isThere e (kept m s (suc d) n) ≡ not (eqb (m e) 0)) → Dec (m d ≡ 0) → Dec (d < e) → isThere e (kept m s d (suc n)) ≡ not (eqb (m e) 0)
       go r (yes z) (yes l) = rw (skip d n z) (r l)
       go r (no z) (yes l) = rw (keep d n z, ne-eqb d e (λ q. omega arith)) (r l)
       go r (yes z) (no l) =
           let q : e ≡ d = omega arith in
-          let w = ap m q ∙ z in
-          rw (skip d n z, far (suc d) n (omega arith), eq-eqb (m e) 0 w)
+          rw (skip d n z, held-out e (suc d) n (λ u v. omega arith), eq-eqb (m e) 0 (ap m q ∙ z))
       go r (no z) (no l) =
           let q : d ≡ e = omega arith in
           rw (keep d n z, eq-eqb d e q, ne-eqb (m e) 0 (λ w. z (ap m q ∙ w)))
-
-  -- past the last
-  pub held-out : (e d n : ℕ) → d + n ≤ e → isThere e (kept m s d n) ≡ false
-  unfolding isThere
-  held-out e d zero h = rw (empty d)
-  held-out e d (suc n) h = go (held-out e (suc d) n (omega arith)) (ℕ-discrete (m d) 0)
-    where
-      go : isThere e (kept m s (suc d) n) ≡ false → Dec (m d ≡ 0) → isThere e (kept m s d (suc n)) ≡ false
-      go r (yes z) = rw (skip d n z) r
-      go r (no z) = rw (keep d n z, ne-eqb d e (λ q. omega arith)) r
 
 -- two that agree
 module _ (m w : ℕ → ℕ) (s t : ℕ → Content) where

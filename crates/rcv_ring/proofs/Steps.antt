@@ -23,8 +23,8 @@ pub held-law : (r : RcvRing) (l : Lists) (d : ℕ) → isThere d (heldOf r l) �
 unfolding heldAt heldOf
 held-law r l d =
     by-less d (r .reach)
-    (λ y. rw (lt-ltb d (r .reach) y) (sym (held-is (markPast r (l .records)) (contentPast r l) d 0 (r .reach) (omega arith) (omega arith))))
-    (λ n. rw (le-ltb d (r .reach) n) (held-out (markPast r (l .records)) (contentPast r l) d 0 (r .reach) (omega arith)))
+    (λ y. rw (lt-ltb d (r .reach) y) (held-is (markPast r (l .records)) (contentPast r l) d 0 (r .reach) (omega arith) (omega arith)))
+    (λ n. rw (le-ltb d (r .reach) n) (held-out (markPast r (l .records)) (contentPast r l) d 0 (r .reach) (λ a b. omega arith)))
 
 -- one that is not held has no mark
 pub free-mark : (r : RcvRing) (records : List ℕ) (d : ℕ) → heldAt r records d ≡ false → d < r .reach → markPast r records d ≡ 0

@@ -91,20 +91,42 @@ pub fn is_held(ring: RcvRing, records: &[u32], d: u32) -> bool
     SEGMENT <= word_at(ring, records, ring.queued as usize + d as usize)
 }
 
-// Clears the words of the distances from the reach up to d.
+// Clears the words at the places from `from` up to `to`. A plain loop, which compiles to one memset.
+fn clear_run(records: &mut [u32], from: usize, to: usize)
+    requires { ⌜ to ≤ length (now records) ⌝ }
+    ensures { λ _. ⌜ now (records .exit) ≡ cleared 0 from (to - from) (now (records .entry)) ⌝ }
+{
+    let mut i = from;
+    while i < to {
+        records[i] = 0;
+        i += 1;
+    }
+}
+
+// Clears the words of the distances from the reach up to d, which are one run of places or two.
 fn clear(ring: RcvRing, records: &mut [u32], d: u32)
     requires { ⌜ length (now records) ≤ 65535 ⌝ }
     requires { ⌜ ring .start < length (now records) ⌝ }
     requires { ⌜ ring .queued + d < length (now records) ⌝ }
     ensures { λ _. ⌜ now (records .exit) ≡ cleared (ring .start) (ring .queued + ring .reach) (d - ring .reach) (now (records .entry)) ⌝ }
 {
-    let end = ring.queued as usize + d as usize;
-    let mut i = ring.queued as usize + ring.reach as usize;
-    while i < end {
-        let p = ring::place_of(records.len(), ring.start as usize, i);
-        records[p] = 0;
-        i += 1;
+    if d <= ring.reach {
+        return;
     }
+    let slots = records.len();
+    let n = d as usize - ring.reach as usize;
+    let a = ring::place_of(
+        slots,
+        ring.start as usize,
+        ring.queued as usize + ring.reach as usize,
+    );
+    let left = slots - a;
+    if n <= left {
+        clear_run(records, a, a + n);
+        return;
+    }
+    clear_run(records, a, slots);
+    clear_run(records, 0, n - left);
 }
 
 // The ring once distance d is in reach.

@@ -1,85 +1,93 @@
--- `rcv_ring::clear` meets its contract: what is left to clear, cleared, is the answer. Assumes nothing.
+-- `rcv_ring::clear` meets its contract: its indices are one run of places or two. Assumes nothing.
 use native.Mathlib.Omega.{arith}
 use Prim.Native.Nat.{_+_, _-_}
-use mathlib.Core.Path.{_≡_, refl, _∙_}
-use lib.ListN.{length, length-set}
+use mathlib.Core.Path.{_∙_, ap}
 use Rattle.rcv_ring.specs.Moves.{cleared}
-use Rattle.rcv_ring.proofs.Words.{cleared-more, cleared-none}
+use Rattle.rcv_ring.proofs.Words.{cleared-off, clear-one, clear-two}
+use borrow.Author.Needs.{needs}
 use Rattle.rcv_ring.proofs.clear.Statement.{statement}
 use Rattle.rcv_ring.proofs.clear.Tie as tie
 
-abbrev Inv-loop : tie.InvT-loop
-Inv-loop ring records₀ d end i₀ records i = (length records ≡ length records₀) × (cleared (ring .start) i (end - i) records ≡ cleared (ring .start) (ring .queued + ring .reach) (d - ring .reach) records₀)
+returns : tie.Need-returns
+returns c = let a = c .before .before .before .args in cleared-off (a .ring .start) (a .ring .queued + a .ring .reach) (a .d) (a .ring .reach) (a .records .now) (c .if1 .taken)
 
-abbrev μ-loop : tie.MeasureT-loop
-μ-loop ring records₀ d end i₀ records i = end - i
+cast-n : tie.Need-cast-n
+cast-n c = search needs
 
-cast-end : tie.Need-cast-end Inv-loop μ-loop
-cast-end c = omega arith
+sub-n : tie.Need-sub-n
+sub-n c = search needs
 
-add-end : tie.Need-add-end Inv-loop μ-loop
-add-end c = omega arith
+cast-place-of : tie.Need-cast-place-of
+cast-place-of c = search needs
 
-cast-i : tie.Need-cast-i Inv-loop μ-loop
-cast-i c = omega arith
+cast-place-of-2 : tie.Need-cast-place-of-2
+cast-place-of-2 c = search needs
 
-cast-i-2 : tie.Need-cast-i-2 Inv-loop μ-loop
-cast-i-2 c = omega arith
+cast-place-of-3 : tie.Need-cast-place-of-3
+cast-place-of-3 c = search needs
 
-add-i : tie.Need-add-i Inv-loop μ-loop
-add-i c = omega arith
+add-place-of : tie.Need-add-place-of
+add-place-of c = search needs
 
-loop-holds : tie.Need-loop-holds Inv-loop μ-loop
-loop-holds c =
-    let a = c .before .before .before .before .args in
-    let e : a .ring .queued + a .d - (a .ring .queued + a .ring .reach) ≡ a .d - a .ring .reach = omega arith in
-    (refl, rw e)
+place-of-requires : tie.Need-place-of-requires
+place-of-requires c κs = search needs
 
-cast-place-of : tie.Need-cast-place-of Inv-loop μ-loop
-cast-place-of c = omega arith
+sub-left : tie.Need-sub-left
+sub-left c = search needs
 
-place-of-requires : tie.Need-place-of-requires Inv-loop μ-loop
-place-of-requires c κs = omega arith
+add-clear-run : tie.Need-add-clear-run
+add-clear-run c = search needs
 
-mul-records : tie.Need-mul-records Inv-loop μ-loop
-mul-records c = omega arith
+clear-run-requires : tie.Need-clear-run-requires
+clear-run-requires c κs = search needs
 
-slice-write-records : tie.Need-slice-write-records Inv-loop μ-loop
-slice-write-records c = omega arith
+same-length : tie.Need-same-length
+same-length c = search needs
 
-add-i-2 : tie.Need-add-i-2 Inv-loop μ-loop
-add-i-2 c = omega arith
+returns-2 : tie.Need-returns-2
+returns-2 c =
+    let a = c .before .before .before .before .before .before .before .before .before .before .before .before .before .args in
+    c .before .before .clear-run .ensures
+    ∙ clear-one (a .records .now) (a .ring .start) (a .ring .queued + a .ring .reach) (a .d - a .ring .reach) _ (omega arith) (omega arith) (c .before .before .before .before .before .place-of .ensures .0) (omega arith)
 
-loop-less : tie.Need-loop-less Inv-loop μ-loop
-loop-less c = omega arith
+clear-run-requires-2 : tie.Need-clear-run-requires-2
+clear-run-requires-2 c κs = search needs
 
-loop-again : tie.Need-loop-again Inv-loop μ-loop
-loop-again c = let l = c .before .before .before .loop in (simp length-set (l .inv .0), rw (c .place-of .ensures .0) (cleared-more _ _ _ _ (omega arith) ∙ l .inv .1))
+sub-clear-run : tie.Need-sub-clear-run
+sub-clear-run c = search needs
 
-same-length : tie.Need-same-length Inv-loop μ-loop
-same-length c = c .before .loop .inv .0
+clear-run-requires-3 : tie.Need-clear-run-requires-3
+clear-run-requires-3 c κs = search needs
 
-returns : tie.Need-returns Inv-loop μ-loop
-returns c = cleared-none _ _ _ _ (omega arith) ∙ c .before .loop .inv .1
+same-length-2 : tie.Need-same-length-2
+same-length-2 c = search needs
+
+returns-3 : tie.Need-returns-3
+returns-3 c =
+    let a = c .before .before .before .before .before .before .before .before .before .before .before .before .before .before .before .before .before .args in
+    c .before .before .clear-run3 .ensures
+    ∙ ap (cleared 0 0 _) (c .before .before .before .before .before .before .clear-run2 .ensures)
+    ∙ clear-two (a .records .now) (a .ring .start) (a .ring .queued + a .ring .reach) (a .d - a .ring .reach) _ (omega arith) (omega arith) (c .before .before .before .before .before .before .before .before .before .place-of .ensures .0) (omega arith)
 
 pub clear-spec : {M : Type 1} → statement M
 clear-spec =
     tie.close
     (tie.spec
-    Inv-loop
-    μ-loop
-    cast-end
-    add-end
-    cast-i
-    cast-i-2
-    add-i
-    loop-holds
+    returns
+    cast-n
+    sub-n
     cast-place-of
+    cast-place-of-2
+    cast-place-of-3
+    add-place-of
     place-of-requires
-    mul-records
-    slice-write-records
-    add-i-2
-    loop-less
-    loop-again
+    sub-left
+    add-clear-run
+    clear-run-requires
     same-length
-    returns)
+    returns-2
+    clear-run-requires-2
+    sub-clear-run
+    clear-run-requires-3
+    same-length-2
+    returns-3)
