@@ -1,17 +1,20 @@
 -- `fill` seen over the segments: the last that waits has more payload, and another number in its row. Assumes nothing.
 use mathlib.Core.Path.{_≡_, sym, ap, _∙_}
-use Prim.Native.Nat.{ℕ, _+_, _-_, _*_, _≤_, _<_}
+use Prim.Native.Nat.{ℕ, _+_, _-_, _*_, _/_, _≤_, _<_}
 use native.Mathlib.Omega.{arith}
 use mathlib.Core.List.{List, _++_}
 use lib.ListN.{length, getD, set, length-set}
 use lib.Seq.{getD-set-same, getD-set-other}
+use Rattle.ring.specs.Lists.{lists}
 use Rattle.ring.specs.Places.{place}
+use Rattle.ring.specs.Records.{putSlot}
 use Rattle.ring.proofs.Rows.{putSlot-length, partSlot-other, partSlot-joined}
 use Rattle.ring.proofs.Places.{place-in, place-apart}
 use Rattle.snd_ring.specs.Marks.{markAt}
-use Rattle.snd_ring.specs.Store.{Store, Stored, segment, cell, seen, flightOf, waitingOf, Sound}
-use Rattle.snd_ring.specs.Steps.{last, lastPlace, filled}
+use Rattle.snd_ring.specs.Store.{Store, store, storeOf, Stored, segment, cell, seen, flightOf, waitingOf, Sound}
+use Rattle.snd_ring.specs.Steps.{renumbered, last, lastPlace, filled}
 use Rattle.snd_ring.specs.declared.SndRing.{SndRing}
+use Rattle.snd_ring.proofs.Splits.{place-by, mark-read, store-mark}
 use Rattle.snd_ring.proofs.Views.{segmentAt, seen-kept, in-room, waiting-around, waiting-before, marked-set}
 use Rattle.snd_ring.proofs.Renumbers.{changed, row-own, row-other, row-size}
 
@@ -106,3 +109,13 @@ module _ (w : ℕ) (r : SndRing) (m : Store) (o : Sound w r m) (some : 0 < r .un
       )
       (changed (waitingOf w r m) (seen w m (r .start) (r .reach) (r .unsent - 1)) (segmentAt w m q) (seen w m (r .start) (last r + 1) (r .unsent - (r .unsent - 1) - 1)) (r .unsent - 1) (topped y k x) d
       (rw e at (waiting-around w r m (r .unsent - 1) o (omega arith))) (waiting-before w r m (r .unsent - 1) o (omega arith)))
+
+-- ---- by what the function has written: the bytes, the mark, the number
+
+pub filled-by : (w : ℕ) (r : SndRing) (a c : List ℕ) (t u : ℕ) (y : List ℕ) (k x : ℕ) {d : List ℕ} → t ≡ length a / (w + 1) → u ≡ place t (r .start) (last r) → u < t
+    → d ≡ putSlot 1476 c u (getD a u 0 - 1) y → renumbered w (storeOf w (lists (set a u (getD a u 0 + length y)) d)) u k x ≡ filled w r (storeOf w (lists a c)) y k x
+unfolding filled storeOf
+filled-by w r a c t u y k x {d} e p h f =
+    let z = mark-read w a c u 0 (omega arith) in
+    let i = place-by w (lists a c) t (r .start) (last r) u e p in
+    ap (λ (m : Store). renumbered w m u k x) (store-mark w a d u (getD a u 0 + length y) (omega arith)) ∙ rw (f, z, i)

@@ -14,7 +14,7 @@ use Rattle.ring.proofs.Places.{place-in}
 use Rattle.snd_ring.specs.Marks.{liveOf, markAt}
 use Rattle.snd_ring.specs.Store.{Store, storeOf, Sized}
 use Rattle.snd_ring.specs.Steps.{written, moved, slidOne}
-use Rattle.snd_ring.proofs.Splits.{marks-length, rows-length, store-room, row-within, mark-read, part-rows, written-by}
+use Rattle.snd_ring.proofs.Splits.{marks-length, rows-length, store-room, place-by, row-within, mark-read, part-rows, written-by}
 use Rattle.snd_ring.proofs.Marks.{live-no, live-yes}
 use Rattle.snd_ring.proofs.Views.{in-rows, in-room}
 
@@ -57,7 +57,7 @@ module _ (w : ℕ) (k c : List ℕ) (n s i to a : ℕ) (e : n ≡ length k / (w 
   slots = e ∙ sym (marks-length w (lists k c))
 
   pub here : getD k a 0 ≡ markAt (m .marks) s i
-  here = mark-read w k c a 0 (omega arith) ∙ ap (λ (q : ℕ). getD (m .marks) q 0) (p ∙ ap (λ (n : ℕ). place n s i) slots)
+  here = mark-read w k c a 0 (omega arith) ∙ ap (λ (q : ℕ). getD (m .marks) q 0) (place-by w (lists k c) n s i a e p)
 
   pub slide-gap : getD k a 0 ≡ 0 → (to ≡ to - liveOf (markAt (m .marks) s i)) × (m ≡ slidOne w m s i to)
   slide-gap h = let f = live-no (markAt (m .marks) s i) (sym here ∙ h) in (omega arith, sym (slid-gap w m s i to (sym here ∙ h)))

@@ -8,9 +8,10 @@ use lib.ListN.{length, getD, set, take, drop, length-append, length-drop, length
 use lib.Seq.{length-take-le, take-at, drop-at, take-set-lt, drop-set-lt, take-set-le, drop-set-add, getD-drop, getD-take}
 use borrow.Rule.Slice.PartAt.{part-to-end}
 use Rattle.ring.specs.Lists.{Lists, lists}
+use Rattle.ring.specs.Places.{place}
 use Rattle.ring.specs.Records.{putSlot, numberAt}
-use Rattle.ring.proofs.Rows.{put-one, putSlot-length}
-use Rattle.snd_ring.specs.Store.{Store, store, storeOf}
+use Rattle.ring.proofs.Rows.{put-one, putSlot-length, row-in}
+use Rattle.snd_ring.specs.Store.{Store, store, storeOf, Sized}
 use Rattle.snd_ring.specs.Steps.{withMarks, renumbered, written}
 
 -- ---- how long each is
@@ -33,6 +34,10 @@ module _ (w : ℕ) (m : Lists) where
   unfolding storeOf
   store-records = take-append-drop (length (m .records) / (w + 1)) (m .records)
 
+  -- a place that was found by the number of slots
+  pub place-by : (n s i q : ℕ) → n ≡ length (m .records) / (w + 1) → q ≡ place n s i → q ≡ place (length (storeOf w m .marks)) s i
+  place-by n s i q e p = p ∙ ap (λ (n : ℕ). place n s i) (e ∙ sym marks-length)
+
 pub store-one : (w : ℕ) (a b : Lists) → storeOf w a ≡ storeOf w b → a ≡ b
 store-one w a b e =
     let r : a .records ≡ b .records = sym (store-records w a) ∙ ap (λ (m : Store). m .marks ++ m .rows) e ∙ store-records w b in
@@ -45,6 +50,23 @@ row-within w n q h =
     let a = rw (mul-add, mul-one) at (div-mul-le-self n (w + 1)) in
     let b = rw suc-mul at (mul-le-mul-right w h) in
     omega arith
+
+-- and every slot within the room
+pub room-within : (w : ℕ) (m : Lists) → Sized w (storeOf w m) → (q : ℕ) → q < length (m .records) / (w + 1) → q * 1476 + 1476 ≤ length (m .room)
+unfolding storeOf
+room-within w m z q h = row-in 1476 q (length (storeOf w m .marks)) (m .room) (z .room-size) (rw (marks-length w m) h)
+
+-- as many slots are as many numbers and bytes
+pub same-lengths : (w : ℕ) (a b : Lists) → Sized w (storeOf w a) → Sized w (storeOf w b) → length (storeOf w a .marks) ≡ length (storeOf w b .marks)
+    → (length (a .records) ≡ length (b .records)) × (length (a .room) ≡ length (b .room))
+unfolding storeOf
+same-lengths w a b x y e =
+    let f = ap (λ (n : ℕ). n * w) e in
+    let g = rw length-append at (ap length (store-records w a)) in
+    let h = rw length-append at (ap length (store-records w b)) in
+    let i = x .rows-size in
+    let j = y .rows-size in
+    (omega arith, x .room-size ∙ ap (λ (n : ℕ). n * 1476) e ∙ sym (y .room-size))
 
 -- ---- one number is written
 
@@ -87,6 +109,9 @@ module _ (w : ℕ) (a b : List ℕ) (n : ℕ) (e : n ≡ length a / (w + 1)) whe
   pub part-rows : take (length a - n) (drop n a) ≡ storeOf w (lists a b) .rows
   unfolding storeOf
   part-rows = rw (e, part-to-end)
+
+  pub part-within : (q : ℕ) → q < n → q * w + w ≤ length (take (length a - n) (drop n a))
+  part-within q h = let d = row-within w (length a) q (omega arith) in let l = rows-length w (lists a b) in rw part-rows (omega arith)
 
   module _ (y : List ℕ) (k : length y ≡ length (storeOf w (lists a b) .rows)) where
     abbrev back : List ℕ
