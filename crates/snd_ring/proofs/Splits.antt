@@ -103,9 +103,13 @@ module _ (w : ℕ) (a b : List ℕ) (q k : ℕ) (h : q < length a / (w + 1)) (d 
   unfolding storeOf
   number-read = rw (at-row, getD-drop)
 
--- ---- the part behind the marks is lent, and y comes back
+-- ---- the marks are lent; the part behind them is lent, and y comes back
 
 module _ (w : ℕ) (a b : List ℕ) (n : ℕ) (e : n ≡ length a / (w + 1)) where
+  pub part-marks : take (n - 0) (drop 0 a) ≡ storeOf w (lists a b) .marks
+  unfolding storeOf
+  part-marks = let z : n - 0 ≡ n = omega arith in rw (z, e)
+
   pub part-rows : take (length a - n) (drop n a) ≡ storeOf w (lists a b) .rows
   unfolding storeOf
   part-rows = rw (e, part-to-end)
