@@ -3,7 +3,7 @@ use mathlib.Core.Path.{_≡_, refl, sym, ap, subst⁻¹, _∙_}
 use Prim.Native.Nat.{ℕ, zero, suc, _+_, _-_, _*_, _≤_, _<_}
 use native.Mathlib.Omega.{arith}
 use native.Mathlib.Decide.{ℕ-discrete}
-use mathlib.Core.List.{List, [], _∷_, _++_, append-assoc, append-nil}
+use mathlib.Core.List.{List, [], _++_, append-assoc, append-nil}
 use lib.ListN.{length, getD, set}
 use Rattle.ring.specs.Places.{place}
 use Rattle.ring.specs.Records.{partSlot}
@@ -11,7 +11,7 @@ use Rattle.ring.proofs.Rows.{part-length}
 use Rattle.ring.proofs.Places.{place-in, place-zero}
 use Rattle.ring.proofs.Counting.{least-le, count-none, count-le}
 use Rattle.snd_ring.specs.Marks.{liveOf, markAt, lives}
-use Rattle.snd_ring.specs.Store.{Store, Stored, cell, seen, flightOf, waitingOf, Sized, Sound}
+use Rattle.snd_ring.specs.Store.{Store, Stored, seen, flightOf, waitingOf, Sized, Sound}
 use Rattle.snd_ring.specs.Steps.{ring, written, settled, slidOne, slid, closed, closedRing}
 use Rattle.snd_ring.specs.declared.SndRing.{SndRing}
 use Rattle.snd_ring.proofs.Marks.{by-live, live-no, live-yes}

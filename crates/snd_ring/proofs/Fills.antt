@@ -11,7 +11,7 @@ use Rattle.ring.specs.Records.{putSlot}
 use Rattle.ring.proofs.Rows.{putSlot-length, partSlot-other, partSlot-joined}
 use Rattle.ring.proofs.Places.{place-in, place-apart}
 use Rattle.snd_ring.specs.Marks.{markAt}
-use Rattle.snd_ring.specs.Store.{Store, store, storeOf, Stored, segment, cell, seen, flightOf, waitingOf, Sound}
+use Rattle.snd_ring.specs.Store.{Store, storeOf, Stored, segment, cell, seen, flightOf, waitingOf, Sound}
 use Rattle.snd_ring.specs.Steps.{renumbered, last, lastPlace, filled}
 use Rattle.snd_ring.specs.declared.SndRing.{SndRing}
 use Rattle.snd_ring.proofs.Splits.{place-by, mark-read, store-mark}

@@ -4,7 +4,7 @@ use Prim.Native.Nat.{ℕ, suc, _+_, _-_, _*_, _≤_, _<_}
 use native.Mathlib.Omega.{arith}
 use native.Mathlib.Decide.{ℕ-discrete}
 use mathlib.Core.List.{List, [], _∷_, _++_}
-use lib.ListN.{length, getD, set, drop, length-set}
+use lib.ListN.{length, set, drop, length-set}
 use lib.Seq.{getD-set-other, take-at, drop-at, drop-append-add}
 use Rattle.ring.specs.Counting.{count}
 use Rattle.ring.specs.Places.{place}
@@ -12,12 +12,12 @@ use Rattle.ring.specs.Sequences.{removed}
 use Rattle.ring.proofs.Places.{place-in, place-apart}
 use Rattle.ring.proofs.Counting.{count-add, count-none, count-single}
 use Rattle.snd_ring.specs.Marks.{liveOf, markAt, lives, passed}
-use Rattle.snd_ring.specs.Store.{Store, Stored, cell, seen, flightOf, waitingOf, Shaped, Marked, Sound}
+use Rattle.snd_ring.specs.Store.{Store, cell, seen, flightOf, waitingOf, Shaped, Sound}
 use Rattle.snd_ring.specs.Steps.{ring, withMarks, settled, advanced, dropped, gapped, takenOut}
 use Rattle.snd_ring.specs.declared.SndRing.{SndRing}
 use Rattle.snd_ring.proofs.Marks.{live-no, live-yes, passed-lives, passed-le, passed-normal}
 use Rattle.snd_ring.proofs.Steps.{settled-none, settled-some}
-use Rattle.snd_ring.proofs.Views.{segmentAt, cell-gap, seen-length, seen-add, seen-none, seen-around, seen-kept, seen-shift, mark-shift, lives-shift, mark-own, mark-other, lives-other, flight-around}
+use Rattle.snd_ring.proofs.Views.{cell-gap, seen-length, seen-add, seen-none, seen-around, seen-kept, seen-shift, mark-shift, lives-shift, mark-own, mark-other, lives-other, flight-around}
 
 -- ---- `settle`
 

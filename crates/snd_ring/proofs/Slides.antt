@@ -1,5 +1,5 @@
 -- What `slide` finds and leaves: a gap, a segment that stays, or one that moves. Assumes nothing.
-use mathlib.Core.Path.{_≡_, refl, sym, ap, _∙_}
+use mathlib.Core.Path.{_≡_, sym, ap, _∙_}
 use Prim.Native.Nat.{ℕ, _+_, _-_, _*_, _/_, _≤_, _<_}
 use native.Mathlib.Omega.{arith}
 use mathlib.Core.List.{List, _++_, append-assoc}
@@ -68,8 +68,7 @@ module _ (w : ℕ) (k c : List ℕ) (n s i to a : ℕ) (e : n ≡ length k / (w 
 
     pub slide-stay : Sized w m → s < n → i ≤ n → markAt (m .marks) s i ≤ 1477 → to - 1 ≡ i → (to - 1 ≡ to - liveOf (markAt (m .marks) s i)) × (m ≡ slidOne w m s i to)
     slide-stay z h d f g =
-        let b = slots in
-        (
+        let b = slots in (
           one-less,
           sym (slid-move w m s i to (λ y. live (here ∙ y)) ∙ rw g (moved-same w m z (place (length (m .marks)) s i) (place-in (length (m .marks)) s i (omega arith) (omega arith)) f)),
         )
@@ -93,6 +92,6 @@ module _ (w : ℕ) (k c : List ℕ) (n s i to a : ℕ) (e : n ≡ length k / (w 
     slide-move b o h f g = (
       one-less,
       written-by w k c n b (getD k a 0) row (partSlot 1476 c a 0 (getD k a 0 - 1)) e h whole f g
-      ∙ moved-by b
-      ∙ rw (p, o, slots) (sym (slid-move w m s i to (λ y. live (here ∙ y)))),
+          ∙ moved-by b
+          ∙ rw (p, o, slots) (sym (slid-move w m s i to (λ y. live (here ∙ y)))),
     )

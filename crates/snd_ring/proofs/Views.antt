@@ -10,12 +10,12 @@ use lib.Seq.{getD-set-same, getD-set-other, getD-at, take-at, drop-at}
 use borrow.Author.Tests.{eq-eqb, ne-eqb}
 use Rattle.ring.specs.Counting.{count}
 use Rattle.ring.specs.Places.{place, along}
-use Rattle.ring.specs.Records.{putSlot, partSlot}
+use Rattle.ring.specs.Records.{partSlot}
 use Rattle.ring.proofs.Rows.{row-in, putSlot-length, partSlot-own, partSlot-other}
-use Rattle.ring.proofs.Places.{place-in, place-zero, place-place, place-apart, along-same, along-add, along-one, along-first, along-length}
+use Rattle.ring.proofs.Places.{place-in, place-zero, place-place, place-apart, along-same, along-add, along-one, along-length}
 use Rattle.ring.proofs.Counting.{count-add, count-single, count-same}
 use Rattle.snd_ring.specs.Marks.{liveOf, markAt, lives}
-use Rattle.snd_ring.specs.Store.{Store, store, Stored, segment, cell, seen, flightOf, waitingOf, Sized, Marked, Sound}
+use Rattle.snd_ring.specs.Store.{Store, Stored, segment, cell, seen, flightOf, waitingOf, Sized, Marked, Sound}
 use Rattle.snd_ring.specs.Steps.{ring, written, appendedRing, appended, launched}
 use Rattle.snd_ring.specs.declared.SndRing.{SndRing}
 use Rattle.snd_ring.proofs.Marks.{by-live, live-yes}

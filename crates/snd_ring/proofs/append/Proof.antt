@@ -1,5 +1,4 @@
 -- `snd_ring::append` meets its contract. Assumes nothing.
-use native.Mathlib.Omega.{arith}
 use mathlib.Core.Path.{refl}
 use Rattle.ring.specs.Lists.{lists}
 use Rattle.snd_ring.proofs.Splits.{marks-length, place-by}

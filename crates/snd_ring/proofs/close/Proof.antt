@@ -62,8 +62,7 @@ same-length-2 c = search needs
 
 returns : tie.Need-returns
 returns c =
-    let a = c .before .before .before .before .before .before .before .before .before .before .before .before .before .before .before .args in
-    (
+    let a = c .before .before .before .before .before .before .before .before .before .before .before .before .before .before .before .args in (
       c .settle .ensures ∙ closed-by (length (a .records .now) / 9) (a .ring) _ (rw (c .before .before .before .before .before .before .before .before .before .slots-in .ensures) at (c .before .before .before .before .before .before .before .before .place-of .ensures .0)),
       c .before .before .before .before .before .slide-all .ensures ∙ closed-store 8 (a .ring) (storeOf 8 (lists (a .records .now) (a .room .now))),
     )
