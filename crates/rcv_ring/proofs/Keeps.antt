@@ -8,9 +8,8 @@ use lib.ListN.{length}
 use Rattle.ring.specs.Lists.{Lists}
 use Rattle.ring.proofs.Places.{by-less, place-in}
 use Rattle.rcv_ring.specs.declared.RcvRing.{RcvRing}
-use Rattle.rcv_ring.specs.Words.{markOf}
-use Rattle.rcv_ring.specs.Places.{markAt, Shaped, Marked, Sound}
-use Rattle.rcv_ring.specs.Moves.{ring, reached, storedAt, movedBy, droppedBy}
+use Rattle.rcv_ring.specs.Places.{markAt, Sound}
+use Rattle.rcv_ring.specs.Moves.{reached, storedAt, movedBy, droppedBy}
 use Rattle.rcv_ring.specs.Views.{markPast}
 use Rattle.rcv_ring.proofs.Steps.{mark-on, by-dropped}
 use Rattle.rcv_ring.proofs.Stores.{records-length, room-length, word-in, word-gap, mark-own}

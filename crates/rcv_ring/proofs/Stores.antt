@@ -18,7 +18,7 @@ use Rattle.rcv_ring.specs.Places.{markAt, frgAt, sizeAt, payloadAt, Soun
 use Rattle.rcv_ring.specs.Moves.{cleared, reached, storedAt}
 use Rattle.rcv_ring.specs.Views.{content, contentAt, held, kept, queueOf, markPast, contentPast, heldOf, heldAt, putBy}
 use Rattle.rcv_ring.proofs.Words.{word-mark, word-frg, set-own, set-other, cleared-length, cleared-out, cleared-in}
-use Rattle.rcv_ring.proofs.Spans.{Same, span-same, kept-add, kept-none, kept-same, kept-putBy}
+use Rattle.rcv_ring.proofs.Spans.{span-same, kept-add, kept-none, kept-same, kept-putBy}
 use Rattle.rcv_ring.proofs.Steps.{free-mark}
 
 module _ (r : RcvRing) (l : Lists) (w : Sound r l) (d frg : ℕ) (x : List ℕ) (h : r .queued + d < length (l .records)) (low : frg < 65536) (fits : length x ≤ 1476) where

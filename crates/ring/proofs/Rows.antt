@@ -39,7 +39,7 @@ put-put l at x y h =
     let f : take (at + length x) ((take at l ++ x) ++ drop (at + length x) l) ≡ take at l ++ x = take-at (take at l ++ x) _ _ e in
     let g : drop ((at + length x) + length y) ((take at l ++ x) ++ drop (at + length x) l) ≡ drop ((at + length x) + length y) l =
     rw (← e) (drop-append-add (take at l ++ x) (drop (length (take at l ++ x)) l) (length y) ∙ drop-drop (length y) (length (take at l ++ x)) l) in
-    rw (length-append, ← append-assoc (take at l) x, f, g, d, append-assoc, append-assoc)
+    rw (length-append, ← append-assoc (take at l) x, f, g, d) (simp append-assoc)
 
 -- ---- what was put is got, and what stands before and after it stays
 
