@@ -136,9 +136,7 @@ fn push(
     );
     Walk {
         skipped: walk.skipped + out.skipped,
-        block: block
-            .with_receiver(out.receiver)
-            .with_acklist(out.acklist),
+        block: block.with_receiver(out.receiver).with_acklist(out.acklist),
         latest: latest,
     }
 }
@@ -306,15 +304,7 @@ fn walk_all(
     let mut walk = start;
     let mut at = 0;
     while 24 <= datagram.len() - at {
-        let met = segment(
-            walk,
-            rcv_records,
-            rcv_room,
-            acks,
-            snd_records,
-            datagram,
-            at,
-        );
+        let met = segment(walk, rcv_records, rcv_room, acks, snd_records, datagram, at);
         let answer = met.answer;
         let Bytes::Are { count } = answer else {
             return met;

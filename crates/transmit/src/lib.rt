@@ -1,14 +1,13 @@
 // The sending side in lent memory: what input does with una and with acks, and the test of the send memory.
 ghost use mathlib.Core.Path.{_≡_};
 ghost use mathlib.Core.Bool.{true};
-ghost use mathlib.Core.List.{List, []};
+ghost use mathlib.Core.List.{List};
 ghost use Prim.Native.Nat.{ℕ, _/_, _≤_, _<_};
 ghost use lib.ListN.{length};
 ghost use Rattle.ring.specs.Lists.{lists};
 ghost use Rattle.snd_ring.specs.Store.{storeOf, Sound};
-ghost use Rattle.block.specs.WellFormed.{OwnNumbers};
-ghost use Rattle.sending.specs.Rules.{acknowledgedBy, unaOf};
-ghost use Rattle.transmit.specs.Memory.{flyingNumbers, side, shrunkAt, unaAt, ackAt, raisedOne, raisedFrom, fastackAt, numberIn, Ends};
+ghost use Rattle.sending.specs.Rules.{acknowledgedBy};
+ghost use Rattle.transmit.specs.Memory.{flyingNumbers, side, shrunkAt, unaAt, ackAt, raisedOne, raisedFrom, fastackAt, Ends};
 ghost use Rattle.transmit.specs.Fits.{sendLent, sendFits, Lies};
 use block::Kcp;
 use block::sender::Sender;
@@ -29,7 +28,7 @@ fn acknowledged_count(ring: SndRing, records: &[u32], una: u32) -> u32
     requires { ⌜ length (now records) / 9 ≤ 65535 ⌝ }
     requires { ⌜ ring .start < length (now records) / 9 ⌝ }
     requires { ⌜ ring .reach ≤ length (now records) / 9 ⌝ }
-    ensures { λ r. ⌜ r ≡ acknowledgedBy una (flyingNumbers ring (storeOf 8 (lists (now (records .entry)) []))) ⌝ }
+    ensures { λ r. ⌜ ((room : List ℕ) → r ≡ acknowledgedBy una (flyingNumbers ring (storeOf 8 (lists (now (records .entry)) room)))) ⌝ }
 {
     let slots = snd_ring::slots_in(records.len());
     let start = ring.start as usize;
@@ -52,7 +51,7 @@ fn acknowledged_count(ring: SndRing, records: &[u32], una: u32) -> u32
 // snd_una set anew: the front number, or snd_nxt.
 fn shrink(sender: Sender, records: &[u32]) -> Sender
     requires { ⌜ Lies sender (now records) ⌝ }
-    ensures { λ r. ⌜ r ≡ shrunkAt sender (storeOf 8 (lists (now (records .entry)) [])) ⌝ }
+    ensures { λ r. ⌜ ((room : List ℕ) → r ≡ shrunkAt sender (storeOf 8 (lists (now (records .entry)) room))) ⌝ }
 {
     let ring = sender.ring;
     if ring.reach == 0 {
@@ -65,7 +64,7 @@ fn shrink(sender: Sender, records: &[u32]) -> Sender
 // Drops the segments in flight that una acknowledges; no memory changes.
 pub fn parse_una(sender: Sender, records: &[u32], una: u32) -> Sender
     requires { ⌜ Lies sender (now records) ⌝ }
-    ensures { λ r. ⌜ r ≡ unaAt una sender (storeOf 8 (lists (now (records .entry)) [])) ⌝ }
+    ensures { λ r. ⌜ ((room : List ℕ) → r ≡ unaAt una sender (storeOf 8 (lists (now (records .entry)) room))) ⌝ }
 {
     let ring = sender.ring;
     let n = acknowledged_count(ring, records, una);
@@ -85,7 +84,7 @@ fn seek(ring: SndRing, records: &[u32], sn: u32) -> Sought
     requires { ⌜ length (now records) / 9 ≤ 65535 ⌝ }
     requires { ⌜ ring .start < length (now records) / 9 ⌝ }
     requires { ⌜ ring .reach ≤ length (now records) / 9 ⌝ }
-    ensures { λ r. ⌜ Ends sn ring (storeOf 8 (lists (now (records .entry)) [])) r ⌝ }
+    ensures { λ r. ⌜ ((room : List ℕ) → Ends sn ring (storeOf 8 (lists (now (records .entry)) room)) r) ⌝ }
 {
     let slots = snd_ring::slots_in(records.len());
     let start = ring.start as usize;
