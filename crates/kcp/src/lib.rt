@@ -1,32 +1,31 @@
-// The public calls: each tests the memory that it is handed, and then acts or changes nothing. No call requires anything of its caller.
-// A block is made by `Kcp::new` and `Kcp::new_stream`, and the setters and getters that are handed no memory are methods of it too (crate block).
+// The public calls that are handed the memory of one side: each tests what it is handed, and then acts or changes nothing. No call requires anything of
+// its caller. A block is made by `Kcp::new` and `Kcp::new_stream`, and the setters and getters that are handed no memory are methods of it too (crate
+// block); input is crate kcp_input.
 ghost use mathlib.Core.Path.{_≡_};
-ghost use mathlib.Core.Bool.{_&&_};
-ghost use Rattle.slots.specs.Pool.{lists};
 ghost use Rattle.serial.specs.Branch.{pick};
-ghost use Rattle.block.specs.declared.refusal.Bytes.the-variants.{Refused as Unread};
-ghost use Rattle.block.specs.Sizes.{ackSizes, pairs};
-ghost use Rattle.block.specs.WellFormed.{ackNumbers};
+ghost use Rattle.ring.specs.Lists.{lists};
+ghost use Rattle.snd_ring.specs.Store.{storeOf};
 ghost use Rattle.receive.specs.declared.Length.the-variants.{Refused};
 ghost use Rattle.receive.specs.Fits.{receiveFits};
 ghost use Rattle.kcp.specs.Calls.{badPool, Promised, moveBufOf, Peeked, Receives, setWndsizeOf, wndsizeNumber};
-ghost use Rattle.kcp.specs.Input.{Inputs};
+ghost use Rattle.kcp.specs.Send.{Sends};
 use block::Kcp;
-use block::acklist::AckList;
 use block::refusal::Answer;
 use block::refusal::Bytes;
 use block::refusal::Refusal;
 use block::set::Set;
-use block::sizes::ack_sizes;
-use input::Outcome;
 use receive::Length;
-
-pub mod sender; // send
 
 // The block after recv, and its answer.
 pub struct Received {
     pub block: Kcp,
     pub answer: Length,
+}
+
+// The block after a send, and its answer.
+pub struct Sent {
+    pub block: Kcp,
+    pub answer: Bytes,
 }
 
 // Refused by 15: all as it was.
@@ -42,14 +41,14 @@ fn bad_pool(block: Kcp) -> Set
 }
 
 // Moves held segments to the queue while the front is rcv_nxt and the queue is shorter than rcv_wnd. Refused by 15, which leaves all.
-pub fn move_buf(block: Kcp, order: &[u32], records: &[u32], room: &[u8]) -> Set
-    ensures { λ r. ⌜ Promised (moveBufOf block (lists (now (order .entry)) (now (records .entry)) (now (room .entry))))
-        (pick (receiveFits block (lists (now (order .entry)) (now (records .entry)) (now (room .entry)))) 0 15) r ⌝ }
+pub fn move_buf(block: Kcp, records: &[u32], room: &[u8]) -> Set
+    ensures { λ r. ⌜ Promised (moveBufOf block (lists (now (records .entry)) (now (room .entry))))
+        (pick (receiveFits block (lists (now (records .entry)) (now (room .entry)))) 0 15) r ⌝ }
 {
-    if !receive::fits(block, order, records, room) {
+    if !receive::fits(block, records, room) {
         return bad_pool(block);
     }
-    let receiver = receive::move_buf(block.receiver, order, records);
+    let receiver = receive::move_buf(block.receiver, records);
     Set {
         block: block.with_receiver(receiver),
         answer: Answer::Done,
@@ -64,124 +63,81 @@ fn no_length(why: Refusal) -> Length
 }
 
 // The length of the message at the front of the queue. Refused by 15, 5 or 6.
-pub fn peeksize(block: Kcp, order: &[u32], records: &[u32], room: &[u8]) -> Length
-    ensures { λ r. ⌜ Peeked block (lists (now (order .entry)) (now (records .entry)) (now (room .entry))) r ⌝ }
+pub fn peeksize(block: Kcp, records: &[u32], room: &[u8]) -> Length
+    ensures { λ r. ⌜ Peeked block (lists (now (records .entry)) (now (room .entry))) r ⌝ }
 {
-    if !receive::fits(block, order, records, room) {
+    if !receive::fits(block, records, room) {
         return no_length(Refusal::BadPool);
     }
-    receive::peeksize(block.receiver, order, records)
+    receive::peeksize(block.receiver, records)
 }
 
 // Hands the message at the front of the queue out into `buf`, and answers its length. Refused by 15, 5, 6 or 7, which leaves all.
-pub fn recv(block: Kcp, order: &mut [u32], records: &[u32], room: &[u8], buf: &mut [u8]) -> Received
-    ensures { λ r. ⌜ Receives block (lists (now (order .entry)) (now (records .entry)) (now (room .entry))) (now (buf .entry))
-        (record { block = r .block; answer = r .answer; pool = lists (now (order .exit)) (now (records .entry)) (now (room .entry)); buf = now (buf .exit) }) ⌝ }
+pub fn recv(block: Kcp, records: &[u32], room: &[u8], buf: &mut [u8]) -> Received
+    ensures { λ r. ⌜ Receives block (lists (now (records .entry)) (now (room .entry))) (now (buf .entry))
+        (record { block = r .block; answer = r .answer; buf = now (buf .exit) }) ⌝ }
 {
-    if !receive::fits(block, order, records, room) {
+    if !receive::fits(block, records, room) {
         return Received {
             block: block,
             answer: no_length(Refusal::BadPool),
         };
     }
     let before = block.receiver;
-    let out = receive::recv(before, order, records, room, buf);
-    let after = out.receiver;
+    let out = receive::recv(before, records, room, buf);
     let answer = out.answer;
-    let probe = receive::recovered(block.probe, before, after.queued);
+    let Length::Is { length } = answer else {
+        return Received {
+            block: block,
+            answer: answer,
+        };
+    };
+    let after = out.receiver;
+    let ring = after.ring;
+    let probe = receive::recovered(block.probe, before, ring.queued);
     Received {
         block: block.with_receiver(after).with_probe(probe),
-        answer: answer,
+        answer: Length::Is { length: length },
     }
 }
 
 // Sets both windows. Refused by 15, or by 14 where the receive window asks for more slots than are lent; either leaves both windows.
-pub fn set_wndsize(
-    block: Kcp,
-    sndwnd: u16,
-    rcvwnd: u16,
-    order: &[u32],
-    records: &[u32],
-    room: &[u8],
-) -> Set
-    ensures { λ r. ⌜ Promised (setWndsizeOf block (lists (now (order .entry)) (now (records .entry)) (now (room .entry))) sndwnd rcvwnd)
-        (wndsizeNumber block (lists (now (order .entry)) (now (records .entry)) (now (room .entry))) rcvwnd) r ⌝ }
+pub fn set_wndsize(block: Kcp, sndwnd: u16, rcvwnd: u16, records: &[u32], room: &[u8]) -> Set
+    ensures { λ r. ⌜ Promised (setWndsizeOf block (lists (now (records .entry)) (now (room .entry))) sndwnd rcvwnd)
+        (wndsizeNumber block (lists (now (records .entry)) (now (room .entry))) rcvwnd) r ⌝ }
 {
-    if !receive::fits(block, order, records, room) {
+    if !receive::fits(block, records, room) {
         return bad_pool(block);
     }
-    receive::set_wndsize(block, order.len(), sndwnd, rcvwnd)
+    receive::set_wndsize(block, records.len(), sndwnd, rcvwnd)
 }
 
-// Whether an ack memory of these lengths is within the limits and holds the acks that the block counts.
-fn ack_fits(acklist: AckList, acks: usize, waiting: usize) -> bool
-    ensures { λ r. ⌜ r ≡ (ackSizes acks waiting && ackNumbers (pairs acks) acklist) ⌝ }
+// Queues the bytes, and answers how many. Refused by 15, which leaves all, by 8, which leaves what joined the last segment of a stream, or by
+// 12, which leaves all.
+pub fn send(block: Kcp, records: &mut [u32], room: &mut [u8], bytes: &[u8]) -> Sent
+    ensures { λ r. ⌜ Sends block (lists (now (records .entry)) (now (room .entry))) (now (bytes .entry))
+        (record { block = r .block; answer = r .answer; store = storeOf 8 (lists (now (records .exit)) (now (room .exit))) }) ⌝ }
 {
-    if ack_sizes(acks, waiting) {
-        return acklist.ack_numbers(acks / Kcp::ACK_PAIR);
-    }
-    false
-}
-
-// An input that was refused before any segment was read: all as it was, and none skipped.
-fn unread(block: Kcp, why: Refusal) -> Outcome
-    ensures { λ r. ⌜ r ≡ record { block = block; answer = Unread why; skipped = 0 } ⌝ }
-{
-    Outcome {
-        block: block,
-        answer: Bytes::Refused { why: why },
-        skipped: 0,
-    }
-}
-
-// One datagram, with both pools and the ack memory: the bytes consumed, and how many pushes were skipped. Refused by 15, 11 or 1, which leave all,
-// or by 2, 3 or 4, which leave what the segments before the refused one did, and after 3 and 4 the conv adopted.
-pub fn input(
-    block: Kcp,
-    rcv_order: &mut [u32],
-    rcv_records: &mut [u32],
-    rcv_room: &mut [u8],
-    snd_order: &mut [u32],
-    snd_records: &mut [u32],
-    snd_room: &[u8],
-    acks: &mut [u32],
-    waiting: &[u8],
-    datagram: &[u8],
-) -> Outcome
-    ensures { λ r. ⌜ Inputs block (lists (now («rcv_order» .entry)) (now («rcv_records» .entry)) (now («rcv_room» .entry))) (now (acks .entry)) (now (waiting .entry))
-        (lists (now («snd_order» .entry)) (now («snd_records» .entry)) (now («snd_room» .entry))) (now (datagram .entry))
-        (record { block = r .block; answer = r .answer; skipped = r .skipped; rcv = lists (now («rcv_order» .exit)) (now («rcv_records» .exit)) (now («rcv_room» .exit)); acks = now (acks .exit); snd = lists (now («snd_order» .exit)) (now («snd_records» .exit)) (now («snd_room» .entry)) }) ⌝ }
-{
-    let mut marks = [0u8; 1024];
-    if !receive::well_formed(block, rcv_order, rcv_records, rcv_room, &mut marks) {
-        return unread(block, Refusal::BadPool);
-    }
-    if !transmit::fits(block, snd_order, snd_records, snd_room) {
-        return unread(block, Refusal::BadPool);
-    }
-    if !ack_fits(block.acklist, acks.len(), waiting.len()) {
-        return unread(block, Refusal::BadPool);
-    }
-    if datagram.len() > Kcp::MTU_MOST {
-        return unread(block, Refusal::DatagramTooBig);
-    }
-    if datagram.len() < Kcp::OVERHEAD as usize {
-        return unread(
-            block,
-            Refusal::InvalidSegmentSize {
-                size: datagram.len(),
+    if !transmit::fits(block, records, room) {
+        return Sent {
+            block: block,
+            answer: Bytes::Refused {
+                why: Refusal::BadPool,
             },
-        );
+        };
     }
-    input::read(
-        block,
-        rcv_order,
-        rcv_records,
-        rcv_room,
-        acks,
-        &mut marks,
-        snd_order,
-        snd_records,
-        datagram,
-    )
+    let settings = block.settings;
+    let out = send::send(
+        block.sender,
+        settings.mss,
+        settings.stream,
+        records,
+        room,
+        bytes,
+    );
+    let answer = out.answer;
+    Sent {
+        block: block.with_sender(out.sender),
+        answer: answer,
+    }
 }

@@ -1,4 +1,0 @@
-pub mod Outcomes
-pub mod Sends
-pub mod Inputs
-pub mod Table
