@@ -61,14 +61,14 @@ unhanded k buf why = record { block = k; answer = Refused why; buf = buf }
 abbrev pub handedOver : Kcp → Receiver → Kcp
 handedOver k r = withProbe (withReceiver k r) (probeAt (k .receiver) (r .ring .queued) (k .probe))
 
-unfoldable pub recvBy : Answer → Kcp → Lists → List ℕ → RecvOut
-recvBy empty k l buf = unhanded k buf RecvQueueEmpty
-recvBy expecting k l buf = unhanded k buf ExpectingFragment
-recvBy longer k l buf = unhanded k buf UserBufTooSmall
-recvBy (gives n) k l buf = record { block = handedOver k (handedAt (k .receiver) (l .records)); answer = Is n; buf = bytesAt (k .receiver) l buf }
+unfoldable pub outBy : Answer → Kcp → Lists → List ℕ → RecvOut
+outBy empty k l buf = unhanded k buf RecvQueueEmpty
+outBy expecting k l buf = unhanded k buf ExpectingFragment
+outBy longer k l buf = unhanded k buf UserBufTooSmall
+outBy (gives n) k l buf = record { block = handedOver k (handedAt (k .receiver) (l .records)); answer = Is n; buf = bytesAt (k .receiver) l buf }
 
 unfoldable pub recvOf : Kcp → Lists → List ℕ → RecvOut
-recvOf k l buf = pick (receiveFits k l) (recvBy (answerAt (length buf) (k .receiver) (l .records)) k l buf) (unhanded k buf BadPool)
+recvOf k l buf = pick (receiveFits k l) (outBy (answerAt (length buf) (k .receiver) (l .records)) k l buf) (unhanded k buf BadPool)
 
 pub record Receives (k : Kcp) (l : Lists) (buf : List ℕ) (o : RecvOut) : Type 0 where
   pub is : o ≡ recvOf k l buf

@@ -95,12 +95,5 @@ pub fn input(
             },
         );
     }
-    input::read(
-        block,
-        rcv_records,
-        rcv_room,
-        acks,
-        snd_records,
-        datagram,
-    )
+    input::read(block, rcv_records, rcv_room, acks, snd_records, datagram)
 }

@@ -1,43 +1,27 @@
--- Which words are those of a block: the tests as facts, both ways. Assumes nothing.
+-- Which words are those of a block: the test as facts, both ways. Assumes nothing.
 use Prim.Native.Nat.{ℕ, _<_}
 use mathlib.Core.Path.{_≡_, refl}
-use mathlib.Core.Bool.{Bool, true, false, _&&_}
+use mathlib.Core.Bool.{Bool, true, false}
 use mathlib.Core.List.{List}
-use lib.Dec.{ltb}
 use lib.ListN.{length}
-use borrow.Author.Tests.{ltb-true, lt-ltb}
-use Rattle.block.proofs.Exact.{Exactly, exactly-eq, exactly-both}
-use Rattle.words.specs.Words.{at, under, shortWords, flagWords, isBlock, Short}
+use borrow.Author.Tests.{eq-eqb, ne-eqb}
+use lib.Dec.{ltb}
+use Rattle.block.proofs.Exact.{Exactly, exactly-eq, exactly-lt, exactly-both}
+use Rattle.words.specs.Words.{at, isBlock}
 
--- each of six numbers is under a bound
-abbrev pub Under : ℕ → ℕ → ℕ → ℕ → ℕ → ℕ → ℕ → Type 0
-Under n a b c d e f = (a < n) × ((b < n) × ((c < n) × ((d < n) × ((e < n) × (f < n)))))
-
-exactly-lt : (a b : ℕ) → Exactly (ltb a b) (a < b)
-exactly-lt a b = record { holds = ltb-true a b; tests = lt-ltb a b }
-
-exactly-under : (n a b c d e f : ℕ) → Exactly (under n a b c d e f) (Under n a b c d e f)
-unfolding under
-exactly-under n a b c d e f =
-    exactly-both (exactly-lt a n) (exactly-both (exactly-lt b n) (exactly-both (exactly-lt c n) (exactly-both (exactly-lt d n) (exactly-both (exactly-lt e n) (exactly-lt f n)))))
-
--- the six short numbers and the six flags of words
-abbrev pub Shorts : List ℕ → Type 0
-Shorts l = Under 65536 (at l 7) (at l 12) (at l 13) (at l 14) (at l 15) (at l 33)
-
-abbrev pub Flags : List ℕ → Type 0
-Flags l = Under 2 (at l 3) (at l 21) (at l 22) (at l 30) (at l 31) (at l 32)
-
-exactly-ranges : (l : List ℕ) → Exactly (shortWords l && flagWords l) (Shorts l × Flags l)
-exactly-ranges l =
-    exactly-both
-    (exactly-under 65536 (at l 7) (at l 12) (at l 13) (at l 14) (at l 15) (at l 33))
-    (exactly-under 2 (at l 3) (at l 21) (at l 22) (at l 30) (at l 31) (at l 32))
-
-pub exactly-block : (l : List ℕ) → Exactly (isBlock l) ((length l ≡ 40) × (Shorts l × Flags l))
+pub exactly-block : (l : List ℕ) → Exactly (isBlock l) ((length l ≡ 35) × (at l 0 < 64))
 unfolding isBlock
-exactly-block l = exactly-both (exactly-eq (length l) 40) (exactly-ranges l)
+exactly-block l = exactly-both (exactly-eq (length l) 35) (exactly-lt (at l 0) 64)
 
-pub short-facts : (l : List ℕ) → Shorts l → Short l
-short-facts l s =
-    record { ssthresh = s .0; snd = s .1 .0; rcv = s .1 .1 .0; rmt = s .1 .1 .1 .0; cwnd = s .1 .1 .1 .1 .0; largest = s .1 .1 .1 .1 .1 }
+pub block-length : (l : List ℕ) → isBlock l ≡ true → length l ≡ 35
+block-length l h = exactly-block l .holds h .0
+
+-- ---- `is_block`
+
+pub not-thirty-five : (l : List ℕ) → (length l ≡ 35 → ⊥) → false ≡ isBlock l
+unfolding isBlock
+not-thirty-five l h = rw (ne-eqb (length l) 35 h)
+
+pub by-flags : (l : List ℕ) → length l ≡ 35 → ltb (at l 0) 64 ≡ isBlock l
+unfolding isBlock
+by-flags l h = rw (eq-eqb (length l) 35 h)

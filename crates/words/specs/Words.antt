@@ -1,12 +1,14 @@
--- A control block as forty words, for a host that keeps it as a list of numbers: the words of a block, the block of words, and which words
--- are those of a block. A flag is 0 or 1, and incr, of 64 bits, is its low and its high half. Assumes nothing.
-use Prim.Native.Nat.{ℕ, _+_, _*_, _/_, _%_, _<_, _^_}
+-- A control block as thirty-five words, for a host that keeps it as a list of numbers: the words of a block, the block of words, and which words are
+-- those of a block. Two numbers of 16 bits share a word, the low one first, and incr, of 64 bits, is its low and its high half; the flags share word 0,
+-- whose other bits are 0. So any number is a block's, but for word 0. What every call that is handed memory tests comes first. Assumes nothing.
+use Prim.Native.Nat.{ℕ, _+_, _*_, _/_, _%_}
 use mathlib.Core.Bool.{Bool, true, false, _&&_}
-use mathlib.Core.List.{List, [], _∷_, _++_}
+use mathlib.Core.List.{List, [], _∷_}
 use lib.Dec.{ltb, eqb}
 use lib.ListN.{length, getD, set}
-use Rattle.serial.specs.Branch.{pick}
 use Rattle.estimator.specs.declared.Estimator.{Estimator}
+use Rattle.rcv_ring.specs.declared.RcvRing.{RcvRing}
+use Rattle.snd_ring.specs.declared.SndRing.{SndRing}
 use Rattle.block.specs.declared.settings.Settings.{Settings}
 use Rattle.block.specs.declared.clock.Clock.{Clock}
 use Rattle.block.specs.declared.congestion.Congestion.{Congestion}
@@ -15,9 +17,6 @@ use Rattle.block.specs.declared.receiver.Receiver.{Receiver}
 use Rattle.block.specs.declared.acklist.AckList.{AckList}
 use Rattle.block.specs.declared.sender.Sender.{Sender}
 use Rattle.block.specs.declared.Kcp.{Kcp}
-use Rattle.block.specs.Parts.{withProbe, withReceiver, withAckList}
-use Rattle.words.specs.declared.Found.{Found}
-use Rattle.words.specs.declared.Found.the-variants.{Block, NoBlock}
 
 -- ---- the words of a block
 
@@ -26,67 +25,74 @@ abbrev pub bit : Bool → ℕ
 bit true = 1
 bit false = 0
 
--- the words 0 to 19 of a block
-unfoldable pub firstWords : Kcp → List ℕ
-firstWords k =
-    k .settings .conv ∷ k .settings .mtu ∷ k .settings .mss ∷ bit (k .sender .dead)
-    ∷ k .sender .«snd_una» ∷ k .sender .«snd_nxt» ∷ k .receiver .«rcv_nxt» ∷ k .congestion .ssthresh
-    ∷ k .estimator .rttval ∷ k .estimator .srtt ∷ k .estimator .rto ∷ k .estimator .minrto
-    ∷ k .congestion .«snd_wnd» ∷ k .receiver .«rcv_wnd» ∷ k .congestion .«rmt_wnd» ∷ k .congestion .cwnd
-    ∷ k .probe .bits ∷ k .clock .current ∷ k .clock .interval ∷ k .clock .«ts_flush» ∷ []
+-- two numbers of 16 bits in a word
+abbrev pub pair : ℕ → ℕ → ℕ
+pair low high = low + high * 65536
 
--- the words 20 to 39
-unfoldable pub lastWords : Kcp → List ℕ
-lastWords k =
-    k .sender .xmit ∷ bit (k .settings .nodelay) ∷ bit (k .clock .updated) ∷ k .probe .«ts_probe»
-    ∷ k .probe .«probe_wait» ∷ k .settings .«dead_link» ∷ k .congestion .incr % 4294967296 ∷ k .congestion .incr / 4294967296
-    ∷ k .settings .fastresend ∷ k .settings .fastlimit ∷ bit (k .settings .nocwnd) ∷ bit (k .settings .stream)
-    ∷ bit (k .settings .«input_conv») ∷ k .receiver .largest ∷ k .receiver .queued ∷ k .receiver .held
-    ∷ k .sender .flying ∷ k .sender .unsent ∷ k .acklist .acks ∷ k .acklist .waiting ∷ []
+abbrev pub flagsOf : Kcp → ℕ
+flagsOf k =
+    bit (k .settings .nodelay)
+    + (2 * bit (k .settings .nocwnd)
+    + (4 * bit (k .settings .stream) + (8 * bit (k .settings .«input_conv») + (16 * bit (k .clock .updated) + 32 * bit (k .sender .dead)))))
 
--- the forty words
 unfoldable pub wordsOf : Kcp → List ℕ
-wordsOf k = firstWords k ++ lastWords k
+wordsOf k =
+    flagsOf k
+    ∷ k .settings .mtu ∷ k .settings .mss ∷ k .probe .«probe_wait»
+    ∷ k .receiver .«rcv_nxt» ∷ pair (k .receiver .«rcv_wnd») (k .receiver .largest) ∷ k .receiver .ring .start ∷ k .receiver .ring .queued ∷ k .receiver .ring .reach
+    ∷ k .sender .ring .start ∷ k .sender .ring .reach ∷ k .sender .ring .flying ∷ k .sender .ring .unsent
+    ∷ k .acklist .acks ∷ k .acklist .waiting ∷ k .probe .bits
+    ∷ k .settings .conv ∷ k .sender .«snd_una» ∷ k .sender .«snd_nxt»
+    ∷ pair (k .congestion .«snd_wnd») (k .congestion .«rmt_wnd») ∷ pair (k .congestion .cwnd) (k .congestion .ssthresh)
+    ∷ k .congestion .incr % 4294967296 ∷ k .congestion .incr / 4294967296
+    ∷ k .estimator .srtt ∷ k .estimator .rttval ∷ k .estimator .rto ∷ k .estimator .minrto
+    ∷ k .clock .current ∷ k .clock .interval ∷ k .clock .«ts_flush» ∷ k .probe .«ts_probe»
+    ∷ k .sender .xmit ∷ k .settings .fastresend ∷ k .settings .fastlimit ∷ k .settings .«dead_link» ∷ []
 
 -- ---- the block of words
 
--- word i
+-- word i, and its two halves
 abbrev pub at : List ℕ → ℕ → ℕ
 at l i = getD l i 0
 
--- the flag at word i
+abbrev pub low : List ℕ → ℕ → ℕ
+low l i = at l i % 65536
+
+abbrev pub high : List ℕ → ℕ → ℕ
+high l i = at l i / 65536
+
+-- the flag of value v in word 0
 abbrev pub flag : List ℕ → ℕ → Bool
-flag l i = eqb (at l i) 1
+flag l v = eqb (at l 0 / v % 2) 1
 
 abbrev pub settingsOf : List ℕ → Settings
 settingsOf l =
-    record { conv = at l 0; mtu = at l 1; mss = at l 2; nodelay = flag l 21; nocwnd = flag l 30; stream = flag l 31; «input_conv» = flag l 32; fastresend = at l 28; fastlimit = at l 29; «dead_link» = at l 25 }
+    record { conv = at l 16; mtu = at l 1; mss = at l 2; nodelay = flag l 1; nocwnd = flag l 2; stream = flag l 4; «input_conv» = flag l 8; fastresend = at l 32; fastlimit = at l 33; «dead_link» = at l 34 }
 
 abbrev pub clockOf : List ℕ → Clock
-clockOf l = record { current = at l 17; interval = at l 18; «ts_flush» = at l 19; updated = flag l 22 }
+clockOf l = record { current = at l 27; interval = at l 28; «ts_flush» = at l 29; updated = flag l 16 }
 
 abbrev pub estimatorOf : List ℕ → Estimator
-estimatorOf l = record { srtt = at l 9; rttval = at l 8; rto = at l 10; minrto = at l 11 }
+estimatorOf l = record { srtt = at l 23; rttval = at l 24; rto = at l 25; minrto = at l 26 }
 
 abbrev pub congestionOf : List ℕ → Congestion
 congestionOf l =
-    record { «snd_wnd» = at l 12; «rmt_wnd» = at l 14; cwnd = at l 15; ssthresh = at l 7; incr = at l 26 + at l 27 * 4294967296 }
+    record { «snd_wnd» = low l 19; «rmt_wnd» = high l 19; cwnd = low l 20; ssthresh = high l 20; incr = at l 21 + at l 22 * 4294967296 }
 
 abbrev pub probeOf : List ℕ → Probe
-probeOf l = record { bits = at l 16; «ts_probe» = at l 23; «probe_wait» = at l 24 }
+probeOf l = record { bits = at l 15; «ts_probe» = at l 30; «probe_wait» = at l 3 }
 
 abbrev pub receiverOf : List ℕ → Receiver
 receiverOf l =
-    record { «rcv_nxt» = at l 6; «rcv_wnd» = at l 13; largest = at l 33; queued = at l 34; held = at l 35 }
+    record { «rcv_nxt» = at l 4; «rcv_wnd» = low l 5; largest = high l 5; ring = record { start = at l 6; queued = at l 7; reach = at l 8 } }
 
 abbrev pub acklistOf : List ℕ → AckList
-acklistOf l = record { acks = at l 38; waiting = at l 39 }
+acklistOf l = record { acks = at l 13; waiting = at l 14 }
 
 abbrev pub senderOf : List ℕ → Sender
 senderOf l =
-    record { «snd_una» = at l 4; «snd_nxt» = at l 5; flying = at l 36; unsent = at l 37; xmit = at l 20; dead = flag l 3 }
+    record { «snd_una» = at l 17; «snd_nxt» = at l 18; ring = record { start = at l 9; reach = at l 10; flying = at l 11; unsent = at l 12 }; xmit = at l 31; dead = flag l 32 }
 
--- the block that forty words say
 unfoldable pub blockOf : List ℕ → Kcp
 blockOf l =
     record {
@@ -100,56 +106,55 @@ blockOf l =
       sender = senderOf l;
     }
 
--- ---- which words are those of a block
-
--- each of six numbers is under a bound
-unfoldable pub under : ℕ → ℕ → ℕ → ℕ → ℕ → ℕ → ℕ → Bool
-under n a b c d e f = ltb a n && (ltb b n && (ltb c n && (ltb d n && (ltb e n && ltb f n))))
-
--- ssthresh, snd_wnd, rcv_wnd, rmt_wnd, cwnd and largest have 16 bits
-abbrev pub shortWords : List ℕ → Bool
-shortWords l = under 65536 (at l 7) (at l 12) (at l 13) (at l 14) (at l 15) (at l 33)
-
--- dead, nodelay, updated, nocwnd, stream and input_conv are flags
-abbrev pub flagWords : List ℕ → Bool
-flagWords l = under 2 (at l 3) (at l 21) (at l 22) (at l 30) (at l 31) (at l 32)
-
--- forty words, with the short numbers and the flags in range
+-- which words are those of a block
 unfoldable pub isBlock : List ℕ → Bool
-isBlock l = eqb (length l) 40 && (shortWords l && flagWords l)
+isBlock l = eqb (length l) 35 && ltb (at l 0) 64
 
--- the short numbers' ranges as facts
-pub record Short (l : List ℕ) : Type 0 where
-  pub ssthresh : at l 7 < 65536
-  pub snd : at l 12 < 65536
-  pub rcv : at l 13 < 65536
-  pub rmt : at l 14 < 65536
-  pub cwnd : at l 15 < 65536
-  pub largest : at l 33 < 65536
+-- ---- the words l with some of another block's: each call writes those that it may change, and no others
 
--- what reading words answers
-unfoldable pub readOf : List ℕ → Found
-readOf l = pick (isBlock l) (Block (blockOf l)) NoBlock
+unfoldable pub withFlags : Kcp → List ℕ → List ℕ
+withFlags k l = set l 0 (flagsOf k)
 
--- ---- the words that a push, a move or a recv can change
+unfoldable pub withMtuWords : Settings → List ℕ → List ℕ
+withMtuWords s l = set (set l 1 (s .mtu)) 2 (s .mss)
 
--- the block k with those numbers as in the block x
-abbrev pub withReceived : Kcp → Kcp → Kcp
-withReceived k x =
-    withAckList
-    (withProbe
-    (withReceiver k (record { «rcv_nxt» = x .receiver .«rcv_nxt»; «rcv_wnd» = k .receiver .«rcv_wnd»; largest = k .receiver .largest; queued = x .receiver .queued; held = x .receiver .held }))
-    (record { bits = x .probe .bits; «ts_probe» = k .probe .«ts_probe»; «probe_wait» = k .probe .«probe_wait» }))
-    (record { acks = x .acklist .acks; waiting = k .acklist .waiting })
+unfoldable pub withRcvWords : Receiver → List ℕ → List ℕ
+withRcvWords r l = set (set (set (set l 4 (r .«rcv_nxt»)) 6 (r .ring .start)) 7 (r .ring .queued)) 8 (r .ring .reach)
 
--- the words l with them
-unfoldable pub setReceived : Kcp → List ℕ → List ℕ
-setReceived x l =
-    set (set (set (set (set l 6 (x .receiver .«rcv_nxt»)) 16 (x .probe .bits)) 34 (x .receiver .queued)) 35 (x .receiver .held)) 38 (x .acklist .acks)
+unfoldable pub withSndWords : SndRing → List ℕ → List ℕ
+withSndWords r l = set (set (set (set l 9 (r .start)) 10 (r .reach)) 11 (r .flying)) 12 (r .unsent)
 
--- ---- the words of the sending side's numbers
+unfoldable pub withWindows : Kcp → List ℕ → List ℕ
+withWindows k l = set (set l 5 (pair (k .receiver .«rcv_wnd») (k .receiver .largest))) 19 (pair (k .congestion .«snd_wnd») (k .congestion .«rmt_wnd»))
 
--- the words l with those of s
-unfoldable pub setSender : Sender → List ℕ → List ℕ
-setSender s l =
-    set (set (set (set (set (set l 3 (bit (s .dead))) 4 (s .«snd_una»)) 5 (s .«snd_nxt»)) 20 (s .xmit)) 36 (s .flying)) 37 (s .unsent)
+unfoldable pub withGrowth : Congestion → List ℕ → List ℕ
+withGrowth c l =
+    set (set (set (set l 19 (pair (c .«snd_wnd») (c .«rmt_wnd»))) 20 (pair (c .cwnd) (c .ssthresh))) 21 (c .incr % 4294967296)) 22 (c .incr / 4294967296)
+
+unfoldable pub withTimes : Estimator → List ℕ → List ℕ
+withTimes e l = set (set (set (set l 23 (e .srtt)) 24 (e .rttval)) 25 (e .rto)) 26 (e .minrto)
+
+-- one word
+abbrev pub withProbeBits : ℕ → List ℕ → List ℕ
+withProbeBits x l = set l 15 x
+
+abbrev pub withAcks : ℕ → List ℕ → List ℕ
+withAcks x l = set l 13 x
+
+abbrev pub withConvWord : ℕ → List ℕ → List ℕ
+withConvWord x l = set l 16 x
+
+abbrev pub withUnaWord : ℕ → List ℕ → List ℕ
+withUnaWord x l = set l 17 x
+
+abbrev pub withMinrtoWord : ℕ → List ℕ → List ℕ
+withMinrtoWord x l = set l 26 x
+
+abbrev pub withIntervalWord : ℕ → List ℕ → List ℕ
+withIntervalWord x l = set l 28 x
+
+abbrev pub withFastresendWord : ℕ → List ℕ → List ℕ
+withFastresendWord x l = set l 32 x
+
+abbrev pub withDeadLinkWord : ℕ → List ℕ → List ℕ
+withDeadLinkWord x l = set l 34 x

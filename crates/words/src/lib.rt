@@ -1,9 +1,10 @@
-// A control block as forty words, for a host that keeps it as a list of numbers.
+// A control block as thirty-five words, for a host that keeps it as a list of numbers. Any number is a block's, but for word 0, whose bits past the
+// flags are 0; so reading tests one word, and a call loads and stores the words that it needs.
 ghost use mathlib.Core.Path.{_≡_};
-ghost use mathlib.Core.Bool.{_&&_, true};
-ghost use Prim.Native.Nat.{_+_, _*_, _/_, _%_};
-ghost use lib.ListN.{length};
-ghost use Rattle.words.specs.Words.{bit, under, shortWords, flagWords, Short, settingsOf, clockOf, estimatorOf, congestionOf, probeOf, receiverOf, acklistOf, senderOf, blockOf, isBlock, readOf, firstWords, lastWords, wordsOf, setReceived, setSender};
+ghost use mathlib.Core.Bool.{_&&_};
+ghost use Prim.Native.Nat.{_+_, _*_, _/_, _%_, _<_};
+ghost use lib.ListN.{length, set};
+ghost use Rattle.words.specs.Words.{bit, pair, flagsOf, wordsOf, at, low, high, flag, settingsOf, clockOf, estimatorOf, congestionOf, probeOf, receiverOf, acklistOf, senderOf, blockOf, isBlock, withFlags, withMtuWords, withRcvWords, withSndWords, withWindows, withGrowth, withTimes};
 use block::Kcp;
 use block::acklist::AckList;
 use block::clock::Clock;
@@ -13,107 +14,94 @@ use block::receiver::Receiver;
 use block::sender::Sender;
 use block::settings::Settings;
 use estimator::Estimator;
+use rcv_ring::RcvRing;
+use snd_ring::SndRing;
 
-// What reading words answers: their block, or that they are none.
-pub enum Found {
-    Block { block: Kcp },
-    NoBlock,
+// How many words a block has.
+pub const WORDS: usize = 35;
+
+// Whether words are those of a block.
+pub fn is_block(words: &[u32]) -> bool
+    ensures { λ r. ⌜ r ≡ isBlock (now (words .entry)) ⌝ }
+{
+    if words.len() != WORDS {
+        return false;
+    }
+    words[0] < 64
 }
 
-// Whether both hold.
-fn both(a: bool, b: bool) -> bool
-    ensures { λ r. ⌜ r ≡ (a && b) ⌝ }
+// The flag of value v.
+fn flag(words: &[u32], v: u32) -> bool
+    requires { ⌜ length (now words) ≡ 35 ⌝ }
+    requires { ⌜ 0 < v ⌝ }
+    ensures { λ r. ⌜ r ≡ flag (now (words .entry)) v ⌝ }
 {
-    if a { b } else { false }
+    words[0] / v % 2 == 1
 }
 
-// Whether each of six numbers is under n. Every test is made, so that the compiler has no branch to keep.
-fn under(n: u32, a: u32, b: u32, c: u32, d: u32, e: u32, f: u32) -> bool
-    ensures { λ r. ⌜ r ≡ under n a b c d e f ⌝ }
+// The low half of word i.
+fn low(words: &[u32], i: usize) -> u16
+    requires { ⌜ i < length (now words) ⌝ }
+    ensures { λ r. ⌜ r ≡ low (now (words .entry)) i ⌝ }
 {
-    let ef = both(e < n, f < n);
-    both(a < n, both(b < n, both(c < n, both(d < n, ef))))
+    (words[i] % 65536) as u16
 }
 
-// Whether the short numbers are in range.
-fn short_words(words: &[u32]) -> bool
-    requires { ⌜ length (now words) ≡ 40 ⌝ }
-    ensures { λ r. ⌜ r ≡ shortWords (now (words .entry)) ⌝ }
+// The high half of word i.
+fn high(words: &[u32], i: usize) -> u16
+    requires { ⌜ i < length (now words) ⌝ }
+    ensures { λ r. ⌜ r ≡ high (now (words .entry)) i ⌝ }
 {
-    under(
-        65536,
-        words[7],
-        words[12],
-        words[13],
-        words[14],
-        words[15],
-        words[33],
-    )
-}
-
-// Whether the flags are 0 or 1.
-fn flag_words(words: &[u32]) -> bool
-    requires { ⌜ length (now words) ≡ 40 ⌝ }
-    ensures { λ r. ⌜ r ≡ flagWords (now (words .entry)) ⌝ }
-{
-    under(
-        2,
-        words[3],
-        words[21],
-        words[22],
-        words[30],
-        words[31],
-        words[32],
-    )
+    (words[i] / 65536) as u16
 }
 
 // The settings in words.
 fn settings(words: &[u32]) -> Settings
-    requires { ⌜ length (now words) ≡ 40 ⌝ }
+    requires { ⌜ length (now words) ≡ 35 ⌝ }
     ensures { λ r. ⌜ r ≡ settingsOf (now (words .entry)) ⌝ }
 {
     Settings {
-        conv: words[0],
+        conv: words[16],
         mtu: words[1],
         mss: words[2],
-        nodelay: words[21] == 1,
-        nocwnd: words[30] == 1,
-        stream: words[31] == 1,
-        input_conv: words[32] == 1,
-        fastresend: words[28],
-        fastlimit: words[29],
-        dead_link: words[25],
+        nodelay: flag(words, 1),
+        nocwnd: flag(words, 2),
+        stream: flag(words, 4),
+        input_conv: flag(words, 8),
+        fastresend: words[32],
+        fastlimit: words[33],
+        dead_link: words[34],
     }
 }
 
 // The clock in words.
 fn clock(words: &[u32]) -> Clock
-    requires { ⌜ length (now words) ≡ 40 ⌝ }
+    requires { ⌜ length (now words) ≡ 35 ⌝ }
     ensures { λ r. ⌜ r ≡ clockOf (now (words .entry)) ⌝ }
 {
     Clock {
-        current: words[17],
-        interval: words[18],
-        ts_flush: words[19],
-        updated: words[22] == 1,
+        current: words[27],
+        interval: words[28],
+        ts_flush: words[29],
+        updated: flag(words, 16),
     }
 }
 
 // The estimator in words.
 fn estimator(words: &[u32]) -> Estimator
-    requires { ⌜ length (now words) ≡ 40 ⌝ }
+    requires { ⌜ length (now words) ≡ 35 ⌝ }
     ensures { λ r. ⌜ r ≡ estimatorOf (now (words .entry)) ⌝ }
 {
     Estimator {
-        srtt: words[9],
-        rttval: words[8],
-        rto: words[10],
-        minrto: words[11],
+        srtt: words[23],
+        rttval: words[24],
+        rto: words[25],
+        minrto: words[26],
     }
 }
 
 // A number of 64 bits from its halves.
-fn joined(low: u32, high: u32) -> u64
+fn wide64(low: u32, high: u32) -> u64
     ensures { λ r. ⌜ r ≡ low + high * 4294967296 ⌝ }
 {
     low as u64 + high as u64 * 4294967296
@@ -121,86 +109,80 @@ fn joined(low: u32, high: u32) -> u64
 
 // The windows of the sending side in words.
 fn congestion(words: &[u32]) -> Congestion
-    requires { ⌜ length (now words) ≡ 40 ⌝ }
-    requires { ⌜ Short (now words) ⌝ }
+    requires { ⌜ length (now words) ≡ 35 ⌝ }
     ensures { λ r. ⌜ r ≡ congestionOf (now (words .entry)) ⌝ }
 {
     Congestion {
-        snd_wnd: words[12] as u16,
-        rmt_wnd: words[14] as u16,
-        cwnd: words[15] as u16,
-        ssthresh: words[7] as u16,
-        incr: joined(words[26], words[27]),
+        snd_wnd: low(words, 19),
+        rmt_wnd: high(words, 19),
+        cwnd: low(words, 20),
+        ssthresh: high(words, 20),
+        incr: wide64(words[21], words[22]),
     }
 }
 
 // The probe in words.
 fn probe(words: &[u32]) -> Probe
-    requires { ⌜ length (now words) ≡ 40 ⌝ }
+    requires { ⌜ length (now words) ≡ 35 ⌝ }
     ensures { λ r. ⌜ r ≡ probeOf (now (words .entry)) ⌝ }
 {
     Probe {
-        bits: words[16],
-        ts_probe: words[23],
-        probe_wait: words[24],
+        bits: words[15],
+        ts_probe: words[30],
+        probe_wait: words[3],
     }
 }
 
 // The numbers of the receiving side in words.
 fn receiver(words: &[u32]) -> Receiver
-    requires { ⌜ length (now words) ≡ 40 ⌝ }
-    requires { ⌜ Short (now words) ⌝ }
+    requires { ⌜ length (now words) ≡ 35 ⌝ }
     ensures { λ r. ⌜ r ≡ receiverOf (now (words .entry)) ⌝ }
 {
     Receiver {
-        rcv_nxt: words[6],
-        rcv_wnd: words[13] as u16,
-        largest: words[33] as u16,
-        queued: words[34],
-        held: words[35],
+        rcv_nxt: words[4],
+        rcv_wnd: low(words, 5),
+        largest: high(words, 5),
+        ring: RcvRing {
+            start: words[6],
+            queued: words[7],
+            reach: words[8],
+        },
     }
 }
 
 // How much of the ack memory is in use, in words.
 fn acklist(words: &[u32]) -> AckList
-    requires { ⌜ length (now words) ≡ 40 ⌝ }
+    requires { ⌜ length (now words) ≡ 35 ⌝ }
     ensures { λ r. ⌜ r ≡ acklistOf (now (words .entry)) ⌝ }
 {
     AckList {
-        acks: words[38],
-        waiting: words[39],
+        acks: words[13],
+        waiting: words[14],
     }
 }
 
 // The numbers of the sending side in words.
 fn sender(words: &[u32]) -> Sender
-    requires { ⌜ length (now words) ≡ 40 ⌝ }
+    requires { ⌜ length (now words) ≡ 35 ⌝ }
     ensures { λ r. ⌜ r ≡ senderOf (now (words .entry)) ⌝ }
 {
     Sender {
-        snd_una: words[4],
-        snd_nxt: words[5],
-        flying: words[36],
-        unsent: words[37],
-        xmit: words[20],
-        dead: words[3] == 1,
+        snd_una: words[17],
+        snd_nxt: words[18],
+        ring: SndRing {
+            start: words[9],
+            reach: words[10],
+            flying: words[11],
+            unsent: words[12],
+        },
+        xmit: words[31],
+        dead: flag(words, 32),
     }
-}
-
-// Whether words are those of a block.
-pub fn is_block(words: &[u32]) -> bool
-    ensures { λ r. ⌜ r ≡ isBlock (now (words .entry)) ⌝ }
-{
-    if words.len() != 40 {
-        return false;
-    }
-    both(short_words(words), flag_words(words))
 }
 
 // The block in words.
 pub fn block(words: &[u32]) -> Kcp
-    requires { ⌜ length (now words) ≡ 40 ⌝ }
-    requires { ⌜ Short (now words) ⌝ }
+    requires { ⌜ length (now words) ≡ 35 ⌝ }
     ensures { λ r. ⌜ r ≡ blockOf (now (words .entry)) ⌝ }
 {
     Kcp {
@@ -215,106 +197,225 @@ pub fn block(words: &[u32]) -> Kcp
     }
 }
 
-// Reads words: their block, or that they are none.
-pub fn read(words: &[u32]) -> Found
-    ensures { λ r. ⌜ r ≡ readOf (now (words .entry)) ⌝ }
+// A flag as a number.
+fn bit(b: bool) -> u32
+    ensures { λ r. ⌜ (r ≡ bit b) × (r < 2) ⌝ }
 {
-    if is_block(words) {
-        return Found::Block {
-            block: block(words),
-        };
-    }
-    Found::NoBlock
+    if b { 1 } else { 0 }
 }
 
-// The words 0 to 19 of a block.
-fn first_words(block: Kcp) -> [u32; 20]
-    ensures { λ r. ⌜ r ≡ firstWords block ⌝ }
+// The flags of a block in a word.
+fn flags_of(block: Kcp) -> u32
+    ensures { λ r. ⌜ r ≡ flagsOf block ⌝ }
 {
+    let settings = block.settings;
+    let clock = block.clock;
+    let sender = block.sender;
+    bit(settings.nodelay)
+        + (2 * bit(settings.nocwnd)
+            + (4 * bit(settings.stream)
+                + (8 * bit(settings.input_conv)
+                    + (16 * bit(clock.updated) + 32 * bit(sender.dead)))))
+}
+
+// Two numbers of 16 bits in a word.
+fn pair(low: u16, high: u16) -> u32
+    ensures { λ r. ⌜ r ≡ pair low high ⌝ }
+{
+    low as u32 + high as u32 * 65536
+}
+
+// The low and the high half of a number of 64 bits.
+fn low_half(x: u64) -> u32
+    ensures { λ r. ⌜ r ≡ x % 4294967296 ⌝ }
+{
+    (x % 4294967296) as u32
+}
+
+fn high_half(x: u64) -> u32
+    ensures { λ r. ⌜ r ≡ x / 4294967296 ⌝ }
+{
+    (x / 4294967296) as u32
+}
+
+// The words of a block.
+fn words_of(block: Kcp) -> [u32; 35]
+    ensures { λ r. ⌜ r ≡ wordsOf block ⌝ }
+{
+    let rcv = block.receiver.ring;
+    let snd = block.sender.ring;
     [
-        block.settings.conv,
+        flags_of(block),
         block.settings.mtu,
         block.settings.mss,
-        block.sender.dead as u32,
+        block.probe.probe_wait,
+        block.receiver.rcv_nxt,
+        pair(block.receiver.rcv_wnd, block.receiver.largest),
+        rcv.start,
+        rcv.queued,
+        rcv.reach,
+        snd.start,
+        snd.reach,
+        snd.flying,
+        snd.unsent,
+        block.acklist.acks,
+        block.acklist.waiting,
+        block.probe.bits,
+        block.settings.conv,
         block.sender.snd_una,
         block.sender.snd_nxt,
-        block.receiver.rcv_nxt,
-        block.congestion.ssthresh as u32,
-        block.estimator.rttval,
+        pair(block.congestion.snd_wnd, block.congestion.rmt_wnd),
+        pair(block.congestion.cwnd, block.congestion.ssthresh),
+        low_half(block.congestion.incr),
+        high_half(block.congestion.incr),
         block.estimator.srtt,
+        block.estimator.rttval,
         block.estimator.rto,
         block.estimator.minrto,
-        block.congestion.snd_wnd as u32,
-        block.receiver.rcv_wnd as u32,
-        block.congestion.rmt_wnd as u32,
-        block.congestion.cwnd as u32,
-        block.probe.bits,
         block.clock.current,
         block.clock.interval,
         block.clock.ts_flush,
-    ]
-}
-
-// The words 20 to 39.
-fn last_words(block: Kcp) -> [u32; 20]
-    ensures { λ r. ⌜ r ≡ lastWords block ⌝ }
-{
-    [
-        block.sender.xmit,
-        block.settings.nodelay as u32,
-        block.clock.updated as u32,
         block.probe.ts_probe,
-        block.probe.probe_wait,
-        block.settings.dead_link,
-        (block.congestion.incr % 4294967296) as u32,
-        (block.congestion.incr / 4294967296) as u32,
+        block.sender.xmit,
         block.settings.fastresend,
         block.settings.fastlimit,
-        block.settings.nocwnd as u32,
-        block.settings.stream as u32,
-        block.settings.input_conv as u32,
-        block.receiver.largest as u32,
-        block.receiver.queued,
-        block.receiver.held,
-        block.sender.flying,
-        block.sender.unsent,
-        block.acklist.acks,
-        block.acklist.waiting,
+        block.settings.dead_link,
     ]
 }
 
-// Writes a block's words.
+// Writes all words of a block.
 pub fn write(block: Kcp, words: &mut [u32])
-    requires { ⌜ length (now words) ≡ 40 ⌝ }
+    requires { ⌜ length (now words) ≡ 35 ⌝ }
     ensures { λ _. ⌜ now (words .exit) ≡ wordsOf block ⌝ }
 {
-    let first = first_words(block);
-    let last = last_words(block);
-    lent::put_record(words, 0, &first);
-    lent::put_record(words, 1, &last);
+    let all = words_of(block);
+    ring::put_record(words, 0, &all);
 }
 
-// Writes the words of a block that a push, a move or a recv can change.
-pub fn write_received(block: Kcp, words: &mut [u32])
-    requires { ⌜ length (now words) ≡ 40 ⌝ }
-    ensures { λ _. ⌜ now (words .exit) ≡ setReceived block (now (words .entry)) ⌝ }
+// Writes the flags.
+pub fn put_flags(block: Kcp, words: &mut [u32])
+    requires { ⌜ length (now words) ≡ 35 ⌝ }
+    ensures { λ _. ⌜ now (words .exit) ≡ withFlags block (now (words .entry)) ⌝ }
 {
-    words[6] = block.receiver.rcv_nxt;
-    words[16] = block.probe.bits;
-    words[34] = block.receiver.queued;
-    words[35] = block.receiver.held;
-    words[38] = block.acklist.acks;
+    words[0] = flags_of(block);
 }
 
-// Writes the words of the sending side's numbers.
-pub fn write_sender(sender: Sender, words: &mut [u32])
-    requires { ⌜ length (now words) ≡ 40 ⌝ }
-    ensures { λ _. ⌜ now (words .exit) ≡ setSender sender (now (words .entry)) ⌝ }
+// Writes mtu and mss.
+pub fn put_mtu(settings: Settings, words: &mut [u32])
+    requires { ⌜ length (now words) ≡ 35 ⌝ }
+    ensures { λ _. ⌜ now (words .exit) ≡ withMtuWords settings (now (words .entry)) ⌝ }
 {
-    words[3] = sender.dead as u32;
-    words[4] = sender.snd_una;
-    words[5] = sender.snd_nxt;
-    words[20] = sender.xmit;
-    words[36] = sender.flying;
-    words[37] = sender.unsent;
+    words[1] = settings.mtu;
+    words[2] = settings.mss;
+}
+
+// Writes rcv_nxt and the receive ring.
+pub fn put_receiver(receiver: Receiver, words: &mut [u32])
+    requires { ⌜ length (now words) ≡ 35 ⌝ }
+    ensures { λ _. ⌜ now (words .exit) ≡ withRcvWords receiver (now (words .entry)) ⌝ }
+{
+    let ring = receiver.ring;
+    words[4] = receiver.rcv_nxt;
+    words[6] = ring.start;
+    words[7] = ring.queued;
+    words[8] = ring.reach;
+}
+
+// Writes the send ring.
+pub fn put_snd_ring(ring: SndRing, words: &mut [u32])
+    requires { ⌜ length (now words) ≡ 35 ⌝ }
+    ensures { λ _. ⌜ now (words .exit) ≡ withSndWords ring (now (words .entry)) ⌝ }
+{
+    words[9] = ring.start;
+    words[10] = ring.reach;
+    words[11] = ring.flying;
+    words[12] = ring.unsent;
+}
+
+// Writes both windows, the largest receive window, and the peer's window, which shares a word with the send window.
+pub fn put_windows(block: Kcp, words: &mut [u32])
+    requires { ⌜ length (now words) ≡ 35 ⌝ }
+    ensures { λ _. ⌜ now (words .exit) ≡ withWindows block (now (words .entry)) ⌝ }
+{
+    words[5] = pair(block.receiver.rcv_wnd, block.receiver.largest);
+    words[19] = pair(block.congestion.snd_wnd, block.congestion.rmt_wnd);
+}
+
+// Writes the windows of the sending side, and incr.
+pub fn put_congestion(congestion: Congestion, words: &mut [u32])
+    requires { ⌜ length (now words) ≡ 35 ⌝ }
+    ensures { λ _. ⌜ now (words .exit) ≡ withGrowth congestion (now (words .entry)) ⌝ }
+{
+    words[19] = pair(congestion.snd_wnd, congestion.rmt_wnd);
+    words[20] = pair(congestion.cwnd, congestion.ssthresh);
+    words[21] = low_half(congestion.incr);
+    words[22] = high_half(congestion.incr);
+}
+
+// Writes the estimator.
+pub fn put_estimator(estimator: Estimator, words: &mut [u32])
+    requires { ⌜ length (now words) ≡ 35 ⌝ }
+    ensures { λ _. ⌜ now (words .exit) ≡ withTimes estimator (now (words .entry)) ⌝ }
+{
+    words[23] = estimator.srtt;
+    words[24] = estimator.rttval;
+    words[25] = estimator.rto;
+    words[26] = estimator.minrto;
+}
+
+// Writes one word: the bits of the probe, the count of acks, the conv, snd_una, rx_minrto, the interval, fastresend or dead_link.
+pub fn put_probe_bits(words: &mut [u32], x: u32)
+    requires { ⌜ length (now words) ≡ 35 ⌝ }
+    ensures { λ _. ⌜ now (words .exit) ≡ set (now (words .entry)) 15 x ⌝ }
+{
+    words[15] = x;
+}
+
+pub fn put_acks(words: &mut [u32], x: u32)
+    requires { ⌜ length (now words) ≡ 35 ⌝ }
+    ensures { λ _. ⌜ now (words .exit) ≡ set (now (words .entry)) 13 x ⌝ }
+{
+    words[13] = x;
+}
+
+pub fn put_conv(words: &mut [u32], x: u32)
+    requires { ⌜ length (now words) ≡ 35 ⌝ }
+    ensures { λ _. ⌜ now (words .exit) ≡ set (now (words .entry)) 16 x ⌝ }
+{
+    words[16] = x;
+}
+
+pub fn put_una(words: &mut [u32], x: u32)
+    requires { ⌜ length (now words) ≡ 35 ⌝ }
+    ensures { λ _. ⌜ now (words .exit) ≡ set (now (words .entry)) 17 x ⌝ }
+{
+    words[17] = x;
+}
+
+pub fn put_minrto(words: &mut [u32], x: u32)
+    requires { ⌜ length (now words) ≡ 35 ⌝ }
+    ensures { λ _. ⌜ now (words .exit) ≡ set (now (words .entry)) 26 x ⌝ }
+{
+    words[26] = x;
+}
+
+pub fn put_interval(words: &mut [u32], x: u32)
+    requires { ⌜ length (now words) ≡ 35 ⌝ }
+    ensures { λ _. ⌜ now (words .exit) ≡ set (now (words .entry)) 28 x ⌝ }
+{
+    words[28] = x;
+}
+
+pub fn put_fastresend(words: &mut [u32], x: u32)
+    requires { ⌜ length (now words) ≡ 35 ⌝ }
+    ensures { λ _. ⌜ now (words .exit) ≡ set (now (words .entry)) 32 x ⌝ }
+{
+    words[32] = x;
+}
+
+pub fn put_dead_link(words: &mut [u32], x: u32)
+    requires { ⌜ length (now words) ≡ 35 ⌝ }
+    ensures { λ _. ⌜ now (words .exit) ≡ set (now (words .entry)) 34 x ⌝ }
+{
+    words[34] = x;
 }

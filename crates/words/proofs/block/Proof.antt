@@ -1,4 +1,4 @@
--- `words::block` meets its contract. The parts are those of the words. Assumes nothing.
+-- `words::block` meets its contract. Assumes nothing.
 use Rattle.words.specs.Words.{blockOf}
 use borrow.Author.Needs.{needs}
 use Rattle.words.proofs.block.Statement.{statement}
@@ -30,9 +30,7 @@ sender-requires c κs = search needs
 
 returns : tie.Need-returns
 unfolding blockOf
-returns c =
-    let s = c .before .before .before .before in
-    rw (c .sender .ensures, c .before .acklist .ensures, c .before .before .receiver .ensures, c .before .before .before .probe .ensures, s .congestion .ensures, s .before .estimator .ensures, s .before .before .clock .ensures, s .before .before .before .settings .ensures)
+returns c = cc
 
 pub block-spec : {M : Type 1} → statement M
 block-spec =

@@ -1,14 +1,14 @@
--- `words::write` meets its contract. Two records of twenty numbers are the forty words. Assumes nothing.
-use Rattle.words.proofs.Writing.{written}
+-- `words::write` meets its contract. Assumes nothing.
+use mathlib.Core.Path.{_≡_, ap, _∙_}
+use lib.ListN.{length}
+use Rattle.words.specs.Words.{wordsOf}
+use Rattle.words.proofs.Writing.{all-written}
 use borrow.Author.Needs.{needs}
 use Rattle.words.proofs.write.Statement.{statement}
 use Rattle.words.proofs.write.Tie as tie
 
-first-words-requires : tie.Need-first-words-requires
-first-words-requires c κs = search needs
-
-last-words-requires : tie.Need-last-words-requires
-last-words-requires c κs = search needs
+words-of-requires : tie.Need-words-of-requires
+words-of-requires c κs = search needs
 
 slice-aggregate-put-record : tie.Need-slice-aggregate-put-record
 slice-aggregate-put-record c = search needs
@@ -16,30 +16,18 @@ slice-aggregate-put-record c = search needs
 put-record-requires : tie.Need-put-record-requires
 put-record-requires c κs = search needs
 
-slice-aggregate-put-record-2 : tie.Need-slice-aggregate-put-record-2
-slice-aggregate-put-record-2 c = search needs
-
-put-record-requires-2 : tie.Need-put-record-requires-2
-put-record-requires-2 c κs = search needs
-
 same-length : tie.Need-same-length
 same-length c = search needs
 
 returns : tie.Need-returns
+unfolding wordsOf
 returns c =
-    let d = c .before .before .before .before .before .before .before in
-    let s = d .before .before .before .before .before .before in
-    written (s .args .words .now) (s .args .block) (s .pre) (d .before .before .before .before .first-words .ensures) (d .before .before .before .last-words .ensures) (d .put-record .ensures) (c .before .before .put-record2 .ensures)
+    let l = c .before .before .before .before .before .before .before .args .words .now in
+    let e = c .before .before .before .before .before .words-of .ensures in
+    let n : length (c .before .before .before .before .before .words-of .result) ≡ 35 = ap length e in
+    c .before .before .put-record .ensures ∙ rw n (all-written l _ 35 (c .before .before .before .before .before .before .before .pre) n) ∙ e
 
 pub write-spec : {M : Type 1} → statement M
 write-spec =
     tie.close
-    (tie.spec
-    first-words-requires
-    last-words-requires
-    slice-aggregate-put-record
-    put-record-requires
-    slice-aggregate-put-record-2
-    put-record-requires-2
-    same-length
-    returns)
+    (tie.spec words-of-requires slice-aggregate-put-record put-record-requires same-length returns)
