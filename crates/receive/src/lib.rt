@@ -210,7 +210,13 @@ pub struct Handed {
 }
 
 // Hands the first `count` segments of the queue out into `buf`: they leave the queue, their slots are free, and held segments move.
-fn hand_out(receiver: Receiver, records: &[u32], room: &[u8], count: usize, buf: &mut [u8]) -> Receiver
+fn hand_out(
+    receiver: Receiver,
+    records: &[u32],
+    room: &[u8],
+    count: usize,
+    buf: &mut [u8],
+) -> Receiver
     requires { ⌜ Good receiver (lists (now records) (now room)) ⌝ }
     requires { ⌜ count ≤ receiver .ring .queued ⌝ }
     requires { ⌜ summed (sizeAt (receiver .ring) (now records)) 0 count ≤ length (now buf) ⌝ }
