@@ -8,9 +8,10 @@ use mathlib.Core.List.{List, [], _∷_}
 use lib.ListN.{length, take}
 use borrow.Author.Tests.{lt-ltb, le-ltb, eq-eqb, ne-eqb}
 use Rattle.ring.specs.Lists.{Lists}
-use Rattle.ring.specs.Places.{summed}
+use Rattle.ring.specs.Places.{summed, along}
+use Rattle.ring.specs.Records.{put}
 use Rattle.rcv_ring.specs.declared.RcvRing.{RcvRing}
-use Rattle.rcv_ring.specs.Places.{frgAt, sizeAt}
+use Rattle.rcv_ring.specs.Places.{frgAt, sizeAt, payloadAt}
 use Rattle.rcv_ring.specs.Views.{span}
 use Rattle.rcv_ring.proofs.Spans.{span-length, span-take, summed-span}
 use Rattle.block.specs.declared.receiver.Receiver.{Receiver}
@@ -18,7 +19,7 @@ use Rattle.block.specs.declared.refusal.Refusal.the-variants.{RecvQueueEmpty, E
 use Rattle.receiving.specs.Rules.{Answer, empty, expecting, gives, message, sum, expects, peeked, unlessLonger}
 use Rattle.receive.specs.declared.Length.the-variants.{Is, Refused}
 use Rattle.receive.specs.declared.Message.{Message}
-use Rattle.receive.specs.Memory.{queueFrgs, queueSizes, Spans, peekAt, answerAt, handedAt, bytesAt, RecvSide, recvBy, recvAt}
+use Rattle.receive.specs.Memory.{queueFrgs, queueSizes, Spans, moveBufAt, peekAt, answerAt, messageAt, freedAt, handedAt, bytesAt, recvBy, recvAt}
 use Rattle.receive.proofs.Seen.{message-within}
 
 -- ---- `message_of`: i segments passed, none of them the last
@@ -94,6 +95,8 @@ module _ (r : Receiver) (l : Lists) (buf : List ℕ) where
     unfolding recvAt recvBy answerAt unlessLonger
     recv-longer h = rw (e, lt-ltb (length buf) n h)
 
-    pub recv-whole : n ≤ length buf → record { receiver = handedAt r (l .records); answer = Is n; buf = bytesAt r l buf } ≡ recvAt r l buf
-    unfolding recvAt recvBy answerAt unlessLonger
-    recv-whole h = rw (e, le-ltb (length buf) n h)
+    -- the message's k segments are handed out
+    pub recv-whole : n ≤ length buf → (k : ℕ) → k ≡ message (queueFrgs (r .ring) (l .records)) → (r′ : Receiver) → r′ ≡ moveBufAt (freedAt (length (l .records)) k r) (l .records)
+        → (buf′ : List ℕ) → buf′ ≡ put buf 0 (along (payloadAt (r .ring) l) 0 k) → record { receiver = r′; answer = Is n; buf = buf′ } ≡ recvAt r l buf
+    unfolding recvAt recvBy answerAt unlessLonger handedAt bytesAt messageAt
+    recv-whole h k q r′ f buf′ g = rw (e, le-ltb (length buf) n h, f, g, q)

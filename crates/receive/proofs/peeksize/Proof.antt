@@ -1,35 +1,35 @@
+-- `receive::peeksize` meets its contract. Assumes nothing.
+use mathlib.Core.Path.{sym, ap}
+use Rattle.receive.specs.Memory.{lengthAnswer}
+use Rattle.receive.proofs.Fronts.{peek-empty, peek-expects, peek-whole}
 use borrow.Author.Needs.{needs}
 use Rattle.receive.proofs.peeksize.Statement.{statement}
 use Rattle.receive.proofs.peeksize.Tie as tie
-use Rattle.receive.proofs.peeksize.Reads as reads
-use Rattle.receive.proofs.peeksize.Lts as lts
-use Rattle.rcv_ring.proofs.frg_at.Reads as frg-at-reads
-use Rattle.receive.proofs.expecting.Reads as expecting-reads
-use Rattle.receive.proofs.message_of.Reads as message-of-reads
 
--- src/lib.rt:191:9
 returns : tie.Need-returns
-returns c = ?
+unfolding lengthAnswer
+returns c = let a = c .before .before .before .before .args in ap lengthAnswer (sym (peek-empty (a .receiver) (a .records .now) (c .if1 .taken)))
 
--- src/lib.rt:195:18
 frg-at-requires : tie.Need-frg-at-requires
 frg-at-requires c κs = search needs
 
--- src/lib.rt:195:8
 expecting-requires : tie.Need-expecting-requires
 expecting-requires c κs = search needs
 
--- src/lib.rt:196:9
 returns-2 : tie.Need-returns-2
-returns-2 c = ?
+unfolding lengthAnswer
+returns-2 c =
+    let a = c .before .before .before .before .before .before .before .args in
+    ap lengthAnswer (sym (peek-expects (a .receiver) (a .records .now) (c .before .before .before .if1 .left) _ (c .before .before .frg-at .ensures) (sym (c .before .expecting .ensures)) (c .if2 .taken)))
 
--- src/lib.rt:200:9
 message-of-requires : tie.Need-message-of-requires
 message-of-requires c κs = search needs
 
--- src/lib.rt:185:1
 returns-3 : tie.Need-returns-3
-returns-3 c = ?
+unfolding lengthAnswer
+returns-3 c =
+    let a = c .before .before .before .before .before .before .before .before .args in
+    ap lengthAnswer (sym (peek-whole (a .receiver) (a .records .now) (c .before .before .before .before .if1 .left) _ (c .before .before .before .frg-at .ensures) (sym (c .before .before .expecting .ensures)) (c .before .if2 .left) _ (c .message-of .ensures)))
 
 pub peeksize-spec : {M : Type 1} → statement M
 peeksize-spec =
