@@ -1,7 +1,6 @@
 -- The tests for 15 are true exactly when their facts hold; then the receive side is good to act on, and what is seen of it is well formed. Assumes nothing.
-use Prim.Native.Nat.{ℕ, _+_, _*_, _^_, _≤_, _<_}
+use Prim.Native.Nat.{_^_, _<_}
 use native.Mathlib.Omega.{arith}
-use mathlib.Core.Path.{_≡_}
 use lib.ListN.{length}
 use Rattle.ring.specs.Lists.{Lists}
 use Rattle.rcv_ring.specs.Places.{Sound}

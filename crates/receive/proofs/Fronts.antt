@@ -2,9 +2,9 @@
 use Prim.Native.Nat.{ℕ, zero, suc, _+_, _-_, _≤_, _<_}
 use native.Mathlib.Omega.{arith}
 use native.Mathlib.Numerals.{add-one}
-use mathlib.Core.Path.{_≡_, refl, sym, ap, _∙_}
+use mathlib.Core.Path.{_≡_, refl, sym, _∙_}
 use mathlib.Core.Bool.{Bool, true, false, cond}
-use mathlib.Core.List.{List, [], _∷_}
+use mathlib.Core.List.{List}
 use lib.ListN.{length, take}
 use borrow.Author.Tests.{lt-ltb, le-ltb, eq-eqb, ne-eqb}
 use Rattle.ring.specs.Lists.{Lists}
@@ -16,7 +16,7 @@ use Rattle.rcv_ring.specs.Views.{span}
 use Rattle.rcv_ring.proofs.Spans.{span-length, span-take, summed-span}
 use Rattle.block.specs.declared.receiver.Receiver.{Receiver}
 use Rattle.block.specs.declared.refusal.Refusal.the-variants.{RecvQueueEmpty, ExpectingFragment, UserBufTooSmall}
-use Rattle.receiving.specs.Rules.{Answer, empty, expecting, gives, message, sum, expects, peeked, unlessLonger}
+use Rattle.receiving.specs.Rules.{empty, expecting, gives, message, sum, expects, peeked, unlessLonger}
 use Rattle.receive.specs.declared.Length.the-variants.{Is, Refused}
 use Rattle.receive.specs.declared.Message.{Message}
 use Rattle.receive.specs.Memory.{queueFrgs, queueSizes, Spans, moveBufAt, peekAt, answerAt, messageAt, freedAt, handedAt, bytesAt, recvBy, recvAt}

@@ -17,7 +17,7 @@ use Rattle.ring.proofs.Sequences.{map-take, map-drop}
 use Rattle.rcv_ring.specs.declared.RcvRing.{RcvRing}
 use Rattle.rcv_ring.specs.Places.{payloadAt, Shaped, Sound}
 use Rattle.rcv_ring.specs.Moves.{ring, reached, storedAt, movedBy, droppedBy}
-use Rattle.rcv_ring.specs.Views.{Content, content, contentAt, Held, held, span, kept, markPast, contentPast, heldOf, heldAt, isThere, putBy, closer, leading, readyOf}
+use Rattle.rcv_ring.specs.Views.{Content, content, contentAt, Held, held, kept, markPast, contentPast, heldOf, heldAt, isThere, putBy, closer, leading, readyOf}
 use Rattle.rcv_ring.proofs.Spans.{span-same, span-none, span-add, span-drop, map-span, skip, keep, empty}
 use Rattle.rcv_ring.proofs.Steps.{held-law, firsts, rest, moved-held, content-on, by-dropped, dropped-held}
 use Rattle.rcv_ring.proofs.Stores.{content-in, store-held}

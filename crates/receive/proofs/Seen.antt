@@ -4,8 +4,8 @@ use Prim.Native.Nat.{ℕ, zero, suc, _+_, _-_, _^_, _≤_, _<_, zero-le, suc-le-
 use native.Mathlib.Omega.{arith}
 use native.Mathlib.Decide.{ℕ-discrete}
 use mathlib.Core.Path.{_≡_, refl, sym, ap, _∙_}
-use mathlib.Core.Bool.{Bool, true, false, cond, not, _&&_}
-use mathlib.Core.List.{List, [], _∷_, map}
+use mathlib.Core.Bool.{Bool, true, false, cond, not}
+use mathlib.Core.List.{List, [], _∷_}
 use lib.ListN.{length, take, length-map}
 use lib.Dec.{eqb}
 use borrow.Author.Tests.{ltb-true}
@@ -14,19 +14,18 @@ use Rattle.serial.specs.Window.{distance, inWindow}
 use Rattle.ring.specs.Lists.{Lists}
 use Rattle.ring.specs.Places.{summed, along}
 use Rattle.ring.specs.Counting.{atLeast, wordAt, count}
-use Rattle.ring.proofs.Places.{summed-first}
 use Rattle.ring.proofs.Counting.{by-least}
-use Rattle.rcv_ring.specs.Places.{frgAt, sizeAt, payloadAt}
+use Rattle.rcv_ring.specs.Places.{frgAt, sizeAt, payloadAt, Sound}
 use Rattle.rcv_ring.specs.Moves.{storedAt, droppedBy}
 use Rattle.rcv_ring.specs.Moves as ring
-use Rattle.rcv_ring.specs.Views.{Content, span, kept, markPast, contentPast, heldOf, heldAt}
+use Rattle.rcv_ring.specs.Views.{Content, kept, markPast, contentPast, heldOf, heldAt}
 use Rattle.rcv_ring.proofs.Spans.{span-same, span-length, span-take, map-span, along-span, skip, keep, empty}
 use Rattle.rcv_ring.proofs.Steps.{ready-held, ready-le, by-dropped}
 use Rattle.rcv_ring.proofs.Stores.{records-length, room-length}
 use Rattle.rcv_ring.proofs.Keeps.{store-sound, moved-sound, dropped-sound}
 use Rattle.rcv_ring.proofs.Copies.{payload-size}
 use Rattle.block.specs.declared.receiver.Receiver.{Receiver}
-use Rattle.receiving.specs.Rules.{Segment, Receiving, numbers, marks, sizes, payloads, ready, moved, moveBuf, skipped, isHeld, reached, insert, stored, push, message, joined, Answer, gives, peek, unlessLonger, recvAnswer, freed, received, recv}
+use Rattle.receiving.specs.Rules.{Segment, Receiving, numbers, marks, sizes, payloads, ready, moved, moveBuf, skipped, isHeld, reached, insert, stored, push, message, joined, Answer, gives, peek, recvAnswer, freed, received, recv}
 use Rattle.receiving.specs.Rules as rules
 use Rattle.receiving.proofs.Laws.{and-left}
 use Rattle.receive.specs.Memory.{withNumber, heldBy, queuedAt, queueBy, seen, queueFrgs, queueSizes, Side, side, readyAt, moveBufAt, distanceOf, storedIn, movedAt, pushAt, peekAt, answerAt, messageAt, freedAt, handedAt, recvBy, recvAt}
@@ -62,7 +61,7 @@ module _ (r : Receiver) (l : Lists) where
 
 -- ---- `move_buf`
 
-module _ {r : Receiver} {l : Lists} (good : Good r l) where
+module _ (r : Receiver) (l : Lists) where
   abbrev few : ℕ
   few = readyAt r (l .records)
 
@@ -74,37 +73,37 @@ module _ {r : Receiver} {l : Lists} (good : Good r l) where
   unfolding readyAt
   few-held = ready-held (r .ring) (l .records) (r .«rcv_wnd» - r .ring .queued)
 
+  module _ (w : Sound (r .ring) l) (low : r .«rcv_nxt» < 2 ^ 32) where
+    small : r .ring .queued + r .ring .reach ≤ 2 ^ 32
+    small = let a = w .shaped .within in let o = w .shaped .many in omega arith
+
+    few-is : ready (r .«rcv_nxt») (r .«rcv_wnd» - length (queueBy (r .«rcv_nxt») (r .ring) l)) (numbers (heldBy (r .«rcv_nxt») (r .ring) l)) ≡ few
+    unfolding seen readyAt
+    few-is = let s = small in rw (seen-queued r l) (ready-law (r .«rcv_nxt») low (r .ring) l (omega arith) (r .«rcv_wnd» - r .ring .queued))
+
+    -- of any sound ring
+    moves-so : seen (moveBufAt r (l .records)) l ≡ moveBuf (seen r l)
+    unfolding seen moveBufAt moveBuf moved
+    moves-so =
+        let a = few-le in
+        let s = small in
+        rw (few-is, moved-queue-law (r .«rcv_nxt») low (r .ring) l few (a .0) few-held (omega arith), moved-law (r .«rcv_nxt») low (r .ring) l few (a .0) few-held)
+
+module _ {r : Receiver} {l : Lists} (good : Good r l) where
+  pub seen-moveBuf : r .«rcv_nxt» < 2 ^ 32 → seen (moveBufAt r (l .records)) l ≡ moveBuf (seen r l)
+  seen-moveBuf low = moves-so r l (good .sound) low
+
   pub move-good : Good (moveBufAt r (l .records)) l
   unfolding moveBufAt
   move-good =
-      let a = few-le in
+      let a = few-le r l in
       let f = good .fits in
       let w = f .window in
       record {
-        sound = moved-sound (r .ring) l (good .sound) few (a .0) few-held;
+        sound = moved-sound (r .ring) l (good .sound) (few r l) (a .0) (few-held r l);
         fits = record { window = w; queue = omega arith; buffer = omega arith; most = f .most; start = f .start };
         twice = good .twice;
       }
-
-  module _ (low : r .«rcv_nxt» < 2 ^ 32) where
-    seen-ready : ready (r .«rcv_nxt») (r .«rcv_wnd» - length (queueBy (r .«rcv_nxt») (r .ring) l)) (numbers (heldBy (r .«rcv_nxt») (r .ring) l)) ≡ few
-    unfolding seen readyAt
-    seen-ready =
-        let w = good .sound .shaped .within in
-        let o = good .sound .shaped .many in
-        rw (seen-queued r l) (ready-law (r .«rcv_nxt») low (r .ring) l (omega arith) (r .«rcv_wnd» - r .ring .queued))
-
-    pub seen-moveBuf : seen (moveBufAt r (l .records)) l ≡ moveBuf (seen r l)
-    unfolding seen moveBufAt moveBuf moved
-    seen-moveBuf =
-        let a = few-le in
-        let w = good .sound .shaped .within in
-        let o = good .sound .shaped .many in
-        rw (
-          seen-ready,
-          moved-queue-law (r .«rcv_nxt») low (r .ring) l few (a .0) few-held (omega arith),
-          moved-law (r .«rcv_nxt») low (r .ring) l few (a .0) few-held,
-        )
 
 pub move-next : (r : Receiver) (records : List ℕ) → moveBufAt r records .«rcv_nxt» < 2 ^ 32
 unfolding moveBufAt
@@ -290,39 +289,41 @@ module _ {r : Receiver} {l : Lists} (good : Good r l) where
     unfolding seen freedAt freed
     seen-freed low = rw (dropped-queue-law (r .«rcv_nxt») low (r .ring) l (good .sound .shaped) k h, dropped-held-law (r .«rcv_nxt») low (r .ring) l (good .sound .shaped) k h)
 
-  module _ (most : length (l .records) ≤ 1024) (buf : List ℕ) where
-    by-good : (a : Answer) → Good (recvBy a r l buf .receiver) l
+  module _ (buf : List ℕ) where
+    -- of no more slots than are ever lent
+    by-good : length (l .records) ≤ 1024 → (a : Answer) → Good (recvBy a r l buf .receiver) l
     unfolding recvBy handedAt
-    by-good rules.empty = good
-    by-good rules.expecting = good
-    by-good rules.longer = good
-    by-good (gives n) = move-good (freed-good (messageAt r (l .records)) (message-queued r (l .records)) most)
+    by-good most rules.empty = good
+    by-good most rules.expecting = good
+    by-good most rules.longer = good
+    by-good most (gives n) = move-good (freed-good (messageAt r (l .records)) (message-queued r (l .records)) most)
 
-    pub recv-good : Good (recvAt r l buf .receiver) l
+    pub recv-good : length (l .records) ≤ 1024 → Good (recvAt r l buf .receiver) l
     unfolding recvAt
-    recv-good = by-good (answerAt (length buf) r (l .records))
+    recv-good most = by-good most (answerAt (length buf) r (l .records))
 
-    module _ (low : r .«rcv_nxt» < 2 ^ 32) where
-      by-next : (a : Answer) → recvBy a r l buf .receiver .«rcv_nxt» < 2 ^ 32
-      unfolding recvBy handedAt
-      by-next rules.empty = low
-      by-next rules.expecting = low
-      by-next rules.longer = low
-      by-next (gives n) = move-next (freedAt (length (l .records)) (messageAt r (l .records)) r) (l .records)
+    by-seen : r .«rcv_nxt» < 2 ^ 32 → (a : Answer) → seen (recvBy a r l buf .receiver) l ≡ received a (seen r l)
+    unfolding recvBy handedAt freedAt received
+    by-seen low rules.empty = refl
+    by-seen low rules.expecting = refl
+    by-seen low rules.longer = refl
+    by-seen low (gives n) =
+        let k = messageAt r (l .records) in
+        let h = message-queued r (l .records) in
+        moves-so (freedAt (length (l .records)) k r) l (dropped-sound (r .ring) l (good .sound) k h) low ∙ ap moveBuf (seen-freed k h low ∙ ap (λ (i : ℕ). freed i (seen r l)) (sym (seen-message r l)))
 
-      pub recv-next : recvAt r l buf .receiver .«rcv_nxt» < 2 ^ 32
-      unfolding recvAt
-      recv-next = by-next (answerAt (length buf) r (l .records))
+    pub seen-recv : r .«rcv_nxt» < 2 ^ 32 → seen (recvAt r l buf .receiver) l ≡ recv (length buf) (seen r l)
+    unfolding recvAt recv
+    seen-recv low = by-seen low (answerAt (length buf) r (l .records)) ∙ ap (λ (a : Answer). received a (seen r l)) (sym (seen-answer (length buf)))
 
-      by-seen : (a : Answer) → seen (recvBy a r l buf .receiver) l ≡ received a (seen r l)
-      unfolding recvBy handedAt freedAt received
-      by-seen rules.empty = refl
-      by-seen rules.expecting = refl
-      by-seen rules.longer = refl
-      by-seen (gives n) =
-          seen-moveBuf (freed-good (messageAt r (l .records)) (message-queued r (l .records)) most) low
-          ∙ ap moveBuf (seen-freed (messageAt r (l .records)) (message-queued r (l .records)) low ∙ ap (λ (k : ℕ). freed k (seen r l)) (sym (seen-message r l)))
+module _ (r : Receiver) (l : Lists) (buf : List ℕ) (low : r .«rcv_nxt» < 2 ^ 32) where
+  by-next : (a : Answer) → recvBy a r l buf .receiver .«rcv_nxt» < 2 ^ 32
+  unfolding recvBy handedAt
+  by-next rules.empty = low
+  by-next rules.expecting = low
+  by-next rules.longer = low
+  by-next (gives n) = move-next (freedAt (length (l .records)) (messageAt r (l .records)) r) (l .records)
 
-      pub seen-recv : seen (recvAt r l buf .receiver) l ≡ recv (length buf) (seen r l)
-      unfolding recvAt recv
-      seen-recv = by-seen (answerAt (length buf) r (l .records)) ∙ ap (λ (a : Answer). received a (seen r l)) (sym (seen-answer (length buf)))
+  pub recv-next : recvAt r l buf .receiver .«rcv_nxt» < 2 ^ 32
+  unfolding recvAt
+  recv-next = by-next (answerAt (length buf) r (l .records))

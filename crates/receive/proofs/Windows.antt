@@ -1,5 +1,5 @@
 -- The window setter is the rule's, and a fresh block's receive side is the rule's fresh one; both are good to act on. Assumes nothing.
-use Prim.Native.Nat.{ℕ, _*_, _≤_, max}
+use Prim.Native.Nat.{ℕ, _≤_}
 use native.Mathlib.Omega.{arith}
 use mathlib.Core.Path.{_≡_, refl, sym, ap, _∙_, subst}
 use mathlib.Core.Bool.{Bool, true, false, cond, not, _&&_}
