@@ -1,53 +1,100 @@
 -- What a host is told of the words of a block: by a setter, and by a constructor. Assumes nothing.
 use Prim.Native.Nat.{ℕ, _<_}
 use mathlib.Core.Path.{_≡_, refl, sym, ap, _∙_}
-use mathlib.Core.Bool.{Bool, true, false, _&&_}
+use mathlib.Core.Bool.{Bool, true, false, not, _&&_}
 use mathlib.Core.List.{List}
-use lib.ListN.{length}
-use borrow.Author.Tests.{eq-eqb, ne-eqb}
+use lib.IntN.{ℤ}
+use lib.ListN.{length, set, length-set}
+use borrow.Author.Tests.{eq-eqb, ne-eqb, not-true, not-false}
 use Rattle.serial.specs.Branch.{pick, pick-true, pick-false}
 use Rattle.block.specs.declared.Kcp.{Kcp}
+use Rattle.block.specs.declared.set.Set.{Set}
 use Rattle.block.specs.declared.make.Made.{Made}
 use Rattle.block.specs.declared.make.Made.the-variants.{Block, Refused}
 use Rattle.block.specs.declared.refusal.Refusal.{Refusal}
-use Rattle.block.specs.declared.refusal.Refusal.the-variants.{BadPool}
+use Rattle.block.specs.declared.refusal.Refusal.the-variants.{BadPool, InvalidMtu}
+use Rattle.block.specs.declared.refusal.Answer.the-variants.{Done, Refused as NotDone}
 use Rattle.block.specs.Fresh.{Lent, lentSizes, madeOf, Makes}
-use Rattle.block.specs.Sizes.{mtuSize}
-use Rattle.block.specs.Setters.{setMtu}
-use Rattle.words.specs.declared.Found.{Found}
-use Rattle.words.specs.declared.Found.the-variants.{Block as Held, NoBlock}
-use Rattle.words.specs.Words.{at, wordsOf, blockOf, isBlock, readOf}
-use Rattle.words.proofs.Reading.{found-block, found-none, block-length}
+use Rattle.block.specs.Sizes.{mtuSize, mssOf}
+use Rattle.block.specs.Parts.{withSettings, withMtu}
+use Rattle.block.specs.Setters.{setMtu, setInterval, setNodelay, setRxMinrto, setFastResend, setMaximumResendTimes, inputConv, setConv}
+use Rattle.words.specs.Words.{at, flagsOf, wordsOf, blockOf, isBlock, withFlags, withMtuWords}
+use Rattle.words.proofs.Tests.{block-length}
 use Rattle.words.proofs.Back.{words-back}
 use Rattle.host.specs.Words.{setWords, WordsSet, canMake, WordsMade}
 
 -- ---- setters
 
-module _ (f : Kcp → Kcp) (n : ℕ) (l : List ℕ) {x : Found} where
-  pub set-refused : x ≡ readOf l → x ≡ NoBlock → WordsSet f n l 15 l
+module _ (f : Kcp → Kcp) (n : ℕ) (l : List ℕ) where
+  pub set-refused : {t : Bool} → t ≡ isBlock l → not t ≡ true → WordsSet f n l 15 l
   unfolding setWords
-  set-refused e h =
-      let no-block : isBlock l ≡ false = found-none l e h in
+  set-refused {t} e h =
+      let no-block : isBlock l ≡ false = sym e ∙ not-true t h in
       record { refusal = sym (pick-false n 15 no-block); words = sym (pick-false (wordsOf (f (blockOf l))) l no-block) }
 
-  pub set-done : {b b′ : Kcp} {r : ℕ} {a : List ℕ} → r ≡ n → x ≡ readOf l → x ≡ Held b → b′ ≡ f b → a ≡ wordsOf b′ → WordsSet f n l r a
+  -- the words that a setter writes, x of them in l: what it leaves of a block's words are the words of the block that it leaves
+  pub set-done : {t : Bool} {r : ℕ} {a : List ℕ} (x : List ℕ → List ℕ) → t ≡ isBlock l → not t ≡ false → ((i : ℕ) → at l i < 4294967296) → x (wordsOf (blockOf l)) ≡ wordsOf (f (blockOf l))
+      → r ≡ n → a ≡ x l → WordsSet f n l r a
   unfolding setWords
-  set-done {b} {b′} d e h s w =
-      let held : (isBlock l ≡ true) × (b ≡ blockOf l) = found-block l e h in
-      record { refusal = d ∙ sym (pick-true n 15 (held .0)); words = w ∙ ap wordsOf (s ∙ ap f (held .1)) ∙ sym (pick-true (wordsOf (f (blockOf l))) l (held .0)) }
+  set-done {t} x e h w s d c =
+      let held : isBlock l ≡ true = sym e ∙ not-false t h in
+      record {
+        refusal = d ∙ sym (pick-true n 15 held);
+        words = c ∙ ap x (sym (words-back l held w)) ∙ s ∙ sym (pick-true (wordsOf (f (blockOf l))) l held);
+      }
 
-pub held-length : (l : List ℕ) {x : Found} {b : Kcp} → x ≡ readOf l → x ≡ Held b → length l ≡ 40
-held-length l e h = block-length l (found-block l e h .0)
+pub held-length : (l : List ℕ) {t : Bool} → t ≡ isBlock l → not t ≡ false → length l ≡ 35
+held-length l {t} e h = block-length l (sym e ∙ not-false t h)
 
--- "10 | InvalidMtu | .. | all as it was", where the words are numbers of 32 bits
-module _ (l : List ℕ) (mtu : ℕ) (w : (i : ℕ) → at l i < 4294967296) (h : mtuSize mtu ≡ false) where
-  mtu-stays : (t : Bool) → isBlock l ≡ t → setWords (λ k. setMtu k mtu .block) l ≡ l
-  unfolding setWords setMtu pick
-  mtu-stays true e = rw (e, h) (words-back l e w)
-  mtu-stays false e = rw e
+-- each of several writes finds as many words
+pub flags-length : (k : Kcp) (l : List ℕ) → length (withFlags k l) ≡ length l
+unfolding withFlags
+flags-length k l = length-set l 0 (flagsOf k)
 
-  pub mtu-refused-stays : setWords (λ k. setMtu k mtu .block) l ≡ l
-  mtu-refused-stays = mtu-stays (isBlock l) refl
+pub word-length : (l m : List ℕ) (i x : ℕ) → m ≡ set l i x → length l ≡ 35 → length m ≡ 35
+word-length l m i x e h = ap length e ∙ length-set l i x ∙ h
+
+-- what each writes in the words of a block
+module _ (k : Kcp) where
+  pub mtu-words : (mtu : ℕ) → withMtuWords (setMtu k mtu .block .settings) (wordsOf k) ≡ wordsOf (setMtu k mtu .block)
+  unfolding withMtuWords wordsOf setMtu pick
+  mtu-words mtu = go (mtuSize mtu)
+    where
+      left : Bool → Set
+      left t = pick t (record { block = withSettings k (withMtu (k .settings) mtu (mssOf mtu)); answer = Done }) (record { block = k; answer = NotDone (InvalidMtu mtu) })
+
+      go : (t : Bool) → withMtuWords (left t .block .settings) (wordsOf k) ≡ wordsOf (left t .block)
+      go true = refl
+      go false = refl
+
+  pub interval-words : (x : ℕ) → set (wordsOf k) 28 (setInterval k x .clock .interval) ≡ wordsOf (setInterval k x)
+  unfolding wordsOf
+  interval-words x = refl
+
+  pub nodelay-words : (nodelay : Bool) (interval resend : ℤ) (nc : Bool)
+      → (let b = setNodelay k nodelay interval resend nc in set (set (set (withFlags b (wordsOf k)) 26 (b .estimator .minrto)) 28 (b .clock .interval)) 32 (b .settings .fastresend) ≡ wordsOf b)
+  unfolding withFlags wordsOf
+  nodelay-words nodelay interval resend nc = refl
+
+  pub minrto-words : (x : ℕ) → set (wordsOf k) 26 (setRxMinrto k x .estimator .minrto) ≡ wordsOf (setRxMinrto k x)
+  unfolding wordsOf
+  minrto-words x = refl
+
+  pub resend-words : (x : ℕ) → set (wordsOf k) 32 (setFastResend k x .settings .fastresend) ≡ wordsOf (setFastResend k x)
+  unfolding wordsOf
+  resend-words x = refl
+
+  pub dead-words : (x : ℕ) → set (wordsOf k) 34 (setMaximumResendTimes k x .settings .«dead_link») ≡ wordsOf (setMaximumResendTimes k x)
+  unfolding wordsOf
+  dead-words x = refl
+
+  pub await-words : withFlags (inputConv k) (wordsOf k) ≡ wordsOf (inputConv k)
+  unfolding withFlags wordsOf
+  await-words = refl
+
+  pub conv-words : (x : ℕ) → set (wordsOf k) 16 (setConv k x .settings .conv) ≡ wordsOf (setConv k x)
+  unfolding wordsOf
+  conv-words x = refl
 
 -- ---- constructors
 
@@ -65,17 +112,17 @@ module _ (m : Lent) (k : Kcp) (l : List ℕ) where
   stays : canMake m l ≡ false → WordsMade m k l 15 l
   stays h = record { refusal = sym (pick-false 0 15 h); words = sym (pick-false (wordsOf k) l h) }
 
-  pub make-short : (length l ≡ 40 → ⊥) → WordsMade m k l 15 l
+  pub make-short : (length l ≡ 35 → ⊥) → WordsMade m k l 15 l
   unfolding canMake
-  make-short h = stays (rw (ne-eqb (length l) 40 h))
+  make-short h = stays (rw (ne-eqb (length l) 35 h))
 
-  pub make-refused : {x : Made} {why : Refusal} → length l ≡ 40 → Makes m k x → x ≡ Refused why → WordsMade m k l 15 l
+  pub make-refused : {x : Made} {why : Refusal} → length l ≡ 35 → Makes m k x → x ≡ Refused why → WordsMade m k l 15 l
   unfolding canMake
-  make-refused h e r = stays (rw (eq-eqb (length l) 40 h) (made-none (lentSizes m) k (sym (e .answer) ∙ r)))
+  make-refused h e r = stays (rw (eq-eqb (length l) 35 h) (made-none (lentSizes m) k (sym (e .answer) ∙ r)))
 
-  pub make-done : {x : Made} {b : Kcp} {a : List ℕ} → length l ≡ 40 → Makes m k x → x ≡ Block b → a ≡ wordsOf b → WordsMade m k l 0 a
+  pub make-done : {x : Made} {b : Kcp} {a : List ℕ} → length l ≡ 35 → Makes m k x → x ≡ Block b → a ≡ wordsOf b → WordsMade m k l 0 a
   unfolding canMake
   make-done {x} {b} h e r w =
       let made : (lentSizes m ≡ true) × (b ≡ k) = made-block (lentSizes m) (sym (e .answer) ∙ r) in
-      let can : canMake m l ≡ true = rw (eq-eqb (length l) 40 h) (made .0) in
+      let can : canMake m l ≡ true = rw (eq-eqb (length l) 35 h) (made .0) in
       record { refusal = sym (pick-true 0 15 can); words = w ∙ ap wordsOf (made .1) ∙ sym (pick-true (wordsOf k) l can) }

@@ -20,9 +20,9 @@ pub record WordsSet (f : Kcp → Kcp) (n : ℕ) (l : List ℕ) (r : ℕ) (after 
   pub refusal : r ≡ pick (isBlock l) n 15
   pub words : after ≡ setWords f l
 
--- forty words, and lent sizes within the limits
+-- as many words as a block has, and lent sizes within the limits
 unfoldable pub canMake : Lent → List ℕ → Bool
-canMake m l = eqb (length l) 40 && lentSizes m
+canMake m l = eqb (length l) 35 && lentSizes m
 
 -- of a constructor of the block k that is lent m: its answer r for the words l, and what stands there afterwards
 pub record WordsMade (m : Lent) (k : Kcp) (l : List ℕ) (r : ℕ) (after : List ℕ) : Type 0 where

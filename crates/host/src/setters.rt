@@ -1,22 +1,20 @@
-// The setters of a block that a host keeps as forty words. Words that are no block are refused by 15, which leaves all.
+// The setters of a block that a host keeps as words. Words that are no block are refused by 15, which leaves all. Each writes the words that it may change.
 ghost use mathlib.Core.Path.{_≡_};
 ghost use Rattle.serial.specs.Branch.{pick};
 ghost use Rattle.block.specs.Sizes.{mtuSize};
 ghost use Rattle.block.specs.Setters.{setMtu, setInterval, setNodelay, setRxMinrto, setFastResend, setMaximumResendTimes, inputConv, setConv};
 ghost use Rattle.host.specs.Words.{WordsSet};
-use words::Found;
 
 // Sets the mtu, and mss with it. 0, or 10 under 50 or over 1,500, which leaves all, or 15.
 pub fn set_mtu(words: &mut [u32], mtu: usize) -> u32
     ensures { λ r. ⌜ WordsSet (λ k. setMtu k mtu .block) (pick (mtuSize mtu) 0 10) (now (words .entry)) r (now (words .exit)) ⌝ }
 {
-    let found = words::read(words);
-    let Found::Block { block } = found else {
+    if !words::is_block(words) {
         return 15;
-    };
-    let set = block.set_mtu(mtu);
+    }
+    let set = words::block(words).set_mtu(mtu);
     let after = set.block;
-    words::write(after, words);
+    words::put_mtu(after.settings, words);
     let answer = set.answer;
     answer.number()
 }
@@ -25,11 +23,11 @@ pub fn set_mtu(words: &mut [u32], mtu: usize) -> u32
 pub fn set_interval(words: &mut [u32], interval: u32) -> u32
     ensures { λ r. ⌜ WordsSet (λ k. setInterval k interval) 0 (now (words .entry)) r (now (words .exit)) ⌝ }
 {
-    let found = words::read(words);
-    let Found::Block { block } = found else {
+    if !words::is_block(words) {
         return 15;
-    };
-    words::write(block.set_interval(interval), words);
+    }
+    let after = words::block(words).set_interval(interval);
+    words::put_interval(words, after.clock.interval);
     0
 }
 
@@ -37,11 +35,14 @@ pub fn set_interval(words: &mut [u32], interval: u32) -> u32
 pub fn set_nodelay(words: &mut [u32], nodelay: bool, interval: i32, resend: i32, nc: bool) -> u32
     ensures { λ r. ⌜ WordsSet (λ k. setNodelay k nodelay interval resend nc) 0 (now (words .entry)) r (now (words .exit)) ⌝ }
 {
-    let found = words::read(words);
-    let Found::Block { block } = found else {
+    if !words::is_block(words) {
         return 15;
-    };
-    words::write(block.set_nodelay(nodelay, interval, resend, nc), words);
+    }
+    let after = words::block(words).set_nodelay(nodelay, interval, resend, nc);
+    words::put_flags(after, words);
+    words::put_minrto(words, after.estimator.minrto);
+    words::put_interval(words, after.clock.interval);
+    words::put_fastresend(words, after.settings.fastresend);
     0
 }
 
@@ -49,11 +50,11 @@ pub fn set_nodelay(words: &mut [u32], nodelay: bool, interval: i32, resend: i32,
 pub fn set_rx_minrto(words: &mut [u32], rto: u32) -> u32
     ensures { λ r. ⌜ WordsSet (λ k. setRxMinrto k rto) 0 (now (words .entry)) r (now (words .exit)) ⌝ }
 {
-    let found = words::read(words);
-    let Found::Block { block } = found else {
+    if !words::is_block(words) {
         return 15;
-    };
-    words::write(block.set_rx_minrto(rto), words);
+    }
+    let after = words::block(words).set_rx_minrto(rto);
+    words::put_minrto(words, after.estimator.minrto);
     0
 }
 
@@ -61,11 +62,11 @@ pub fn set_rx_minrto(words: &mut [u32], rto: u32) -> u32
 pub fn set_fast_resend(words: &mut [u32], fr: u32) -> u32
     ensures { λ r. ⌜ WordsSet (λ k. setFastResend k fr) 0 (now (words .entry)) r (now (words .exit)) ⌝ }
 {
-    let found = words::read(words);
-    let Found::Block { block } = found else {
+    if !words::is_block(words) {
         return 15;
-    };
-    words::write(block.set_fast_resend(fr), words);
+    }
+    let after = words::block(words).set_fast_resend(fr);
+    words::put_fastresend(words, after.settings.fastresend);
     0
 }
 
@@ -73,11 +74,11 @@ pub fn set_fast_resend(words: &mut [u32], fr: u32) -> u32
 pub fn set_maximum_resend_times(words: &mut [u32], dead_link: u32) -> u32
     ensures { λ r. ⌜ WordsSet (λ k. setMaximumResendTimes k «dead_link») 0 (now (words .entry)) r (now (words .exit)) ⌝ }
 {
-    let found = words::read(words);
-    let Found::Block { block } = found else {
+    if !words::is_block(words) {
         return 15;
-    };
-    words::write(block.set_maximum_resend_times(dead_link), words);
+    }
+    let after = words::block(words).set_maximum_resend_times(dead_link);
+    words::put_dead_link(words, after.settings.dead_link);
     0
 }
 
@@ -85,11 +86,11 @@ pub fn set_maximum_resend_times(words: &mut [u32], dead_link: u32) -> u32
 pub fn input_conv(words: &mut [u32]) -> u32
     ensures { λ r. ⌜ WordsSet (λ k. inputConv k) 0 (now (words .entry)) r (now (words .exit)) ⌝ }
 {
-    let found = words::read(words);
-    let Found::Block { block } = found else {
+    if !words::is_block(words) {
         return 15;
-    };
-    words::write(block.input_conv(), words);
+    }
+    let after = words::block(words).input_conv();
+    words::put_flags(after, words);
     0
 }
 
@@ -97,10 +98,10 @@ pub fn input_conv(words: &mut [u32]) -> u32
 pub fn set_conv(words: &mut [u32], conv: u32) -> u32
     ensures { λ r. ⌜ WordsSet (λ k. setConv k conv) 0 (now (words .entry)) r (now (words .exit)) ⌝ }
 {
-    let found = words::read(words);
-    let Found::Block { block } = found else {
+    if !words::is_block(words) {
         return 15;
-    };
-    words::write(block.set_conv(conv), words);
+    }
+    let after = words::block(words).set_conv(conv);
+    words::put_conv(words, after.settings.conv);
     0
 }
