@@ -1,0 +1,5 @@
+pub mod Numbers
+pub mod Spaces
+pub mod Queues
+pub mod Steps
+pub mod Sends
