@@ -3,3 +3,7 @@ pub mod Spaces
 pub mod Queues
 pub mod Steps
 pub mod Sends
+pub mod Seen
+pub mod Twelve
+pub mod Whole
+pub mod Keep

@@ -1,13 +1,13 @@
 -- What a send does by cases, what it keeps, and what the code asks and leaves. Assumes nothing.
 use Prim.Native.Nat.{ℕ, _+_, _-_, _/_, _≤_, _<_}
 use native.Mathlib.Omega.{arith}
-use native.Mathlib.Decide.{decLt}
 use mathlib.Core.Path.{_≡_, refl, sym, ap, _∙_, subst}
 use mathlib.Core.Bool.{Bool, true, false}
 use mathlib.Core.List.{List}
 use lib.ListN.{length, take, drop, length-set}
 use Rattle.serial.specs.Branch.{pick}
 use Rattle.ring.specs.Lists.{lists}
+use Rattle.ring.proofs.Places.{by-less}
 use Rattle.snd_ring.specs.declared.SndRing.{SndRing}
 use Rattle.snd_ring.specs.Store.{Store, storeOf, Shaped, Sound}
 use Rattle.snd_ring.specs.Steps.{filled}
@@ -27,73 +27,26 @@ use Rattle.send.proofs.Spaces.{Keeps, keeps-same, keeps-on, spaced-keep
 use Rattle.send.proofs.Queues.{Behind, queued-behind}
 use Rattle.send.proofs.Steps.{fill-needs}
 
-module _ (mss : ℕ) (stream : Bool) (bytes : List ℕ) (s : Sender) (m : Store) (o : Sound 8 (s .ring) m) (small : mss ≤ 1476) where
+module _ (mss : ℕ) (stream : Bool) (bytes : List ℕ) (s : Sender) (m : Store) where
+  -- the free slots, gaps among them
   abbrev pub free : ℕ
   free = length (m .marks) - (s .ring .flying + s .ring .unsent)
 
-  -- ---- the fill
-
-  abbrev joined : List ℕ
+  -- the bytes that join the last queued segment, and the memory with them
+  abbrev pub joined : List ℕ
   joined = take (joining mss stream bytes s m) bytes
 
-  abbrev longer : Store
+  abbrev pub longer : Store
   longer = filled 8 (s .ring) m joined frg 0
 
-  -- what holds of the memory as it is, and of the filled one
-  filled-by : (P : Store → Type 0) → P m → (fills mss stream (s .ring .unsent) (lastLength (s .ring) m) ≡ true → P longer) → P (filledAt mss stream bytes s m)
-  unfolding filledAt pick
-  filled-by P a b = go (fills mss stream (s .ring .unsent) (lastLength (s .ring) m)) refl
-    where
-      go : (t : Bool) → fills mss stream (s .ring .unsent) (lastLength (s .ring) m) ≡ t → P (pick t longer m)
-      go true e = b e
-      go false e = a
-
-  longer-slots : length (longer .marks) ≡ length (m .marks)
-  unfolding filled
-  longer-slots = simp length-set
-
-  pub filled-keeps : Keeps (s .ring) m (laid (s .ring) (filledAt mss stream bytes s m))
-  filled-keeps =
-      filled-by (λ (q : Store). Keeps (s .ring) m (laid (s .ring) q)) (keeps-same (s .ring) m o)
-      (λ e.
-      let n = fill-needs mss stream bytes s m _ refl e o small (joining mss stream bytes s m) (omega arith) in
-      record {
-        sound = fill-sound 8 (s .ring) m o (n .0) joined (n .1 .1) frg 0 (omega arith);
-        slots = longer-slots;
-        flight = fill-flight 8 (s .ring) m o (n .0) joined (n .1 .1) frg 0 (omega arith);
-        flying = refl;
-      })
-
-  -- ---- and the new segments
+  -- the new segments, and the ring and its memory that they are put in
+  abbrev pub pieces-of : List Segment
+  pieces-of = cut mss stream (new mss stream bytes s m) (drop (joining mss stream bytes s m) bytes)
 
   abbrev pub spaced : Laid
   spaced = spacedAt (new mss stream bytes s m) (laid (s .ring) (filledAt mss stream bytes s m))
 
-  pub made-keeps : Keeps (s .ring) m spaced
-  made-keeps = keeps-on filled-keeps (spaced-keeps (new mss stream bytes s m) (s .ring) (filledAt mss stream bytes s m) (filled-keeps .sound))
-
-  abbrev pub pieces-of : List Segment
-  pieces-of = cut mss stream (new mss stream bytes s m) (drop (joining mss stream bytes s m) bytes)
-
-  module _ (room : new mss stream bytes s m ≤ free) where
-    pub made-room : spaced .ring .reach + spaced .ring .unsent + new mss stream bytes s m ≤ length (m .marks)
-    made-room =
-        let e = filled-keeps .slots in
-        let r = spaced-room (new mss stream bytes s m) (s .ring) (filledAt mss stream bytes s m) (filled-keeps .sound) (omega arith) in
-        omega arith
-
-    pub sent-behind : Behind (new mss stream bytes s m) pieces-of spaced (sentAt mss stream bytes s m)
-    unfolding sentAt
-    sent-behind =
-        let e = made-keeps .slots in
-        let r = made-room in
-        queued-behind mss stream small (new mss stream bytes s m) (drop (joining mss stream bytes s m) bytes) spaced (made-keeps .sound) (omega arith)
-
-    pub sent-keeps : Keeps (s .ring) m (sentAt mss stream bytes s m)
-    sent-keeps = keeps-on made-keeps (sent-behind .keeps)
-
-  -- ---- 8 leaves the fill, 12 leaves all, and else all is queued
-
+  -- 8 leaves the fill, 12 leaves all, and else all is queued
   pub judged-big : 128 ≤ new mss stream bytes s m → verdictAt mss stream bytes s m ≡ tooBig
   unfolding verdictAt
   judged-big h = verdict-big (new mss stream bytes s m) free h
@@ -107,18 +60,72 @@ module _ (mss : ℕ) (stream : Bool) (bytes : List ℕ) (s : Sender) (m : Store)
     unfolding verdictAt
     judged-fits h = verdict-fits (new mss stream bytes s m) free few h
 
+  -- by cases
+  pub judged : {A : Type 0} → (128 ≤ new mss stream bytes s m → verdictAt mss stream bytes s m ≡ tooBig → A)
+      → (new mss stream bytes s m < 128 → free < new mss stream bytes s m → verdictAt mss stream bytes s m ≡ poolFull → A)
+      → (new mss stream bytes s m < 128 → new mss stream bytes s m ≤ free → verdictAt mss stream bytes s m ≡ fits → A) → A
+  judged big full all =
+      by-less (new mss stream bytes s m) 128
+      (λ h. by-less free (new mss stream bytes s m) (λ k. full h k (judged-full h k)) (λ k. all h k (judged-fits h k)))
+      (λ h. big h (judged-big h))
+
   -- what holds of each of the three holds of a send
   pub send-by : (P : Side → Type 0) → (128 ≤ new mss stream bytes s m → P (side s (filledAt mss stream bytes s m)))
       → (new mss stream bytes s m < 128 → free < new mss stream bytes s m → P (side s m))
       → (new mss stream bytes s m < 128 → new mss stream bytes s m ≤ free → P (side (withSndRing s (sentAt mss stream bytes s m .ring)) (sentAt mss stream bytes s m .store)))
       → P (sendAt mss stream bytes s m)
   unfolding sendAt leftAt
-  send-by P big full all = go (decLt (new mss stream bytes s m) 128) (decLt free (new mss stream bytes s m))
+  send-by P big full all = judged (λ h v. rw v (big h)) (λ h k v. rw v (full h k)) (λ h k v. rw v (all h k))
+
+module _ (mss : ℕ) (stream : Bool) (bytes : List ℕ) (s : Sender) (m : Store) (o : Sound 8 (s .ring) m) (small : mss ≤ 1476) where
+  -- ---- the fill
+
+  -- what holds of the memory as it is, and of the filled one
+  filled-by : (P : Store → Type 0) → P m → (fills mss stream (s .ring .unsent) (lastLength (s .ring) m) ≡ true → P (longer mss stream bytes s m)) → P (filledAt mss stream bytes s m)
+  unfolding filledAt pick
+  filled-by P a b = go (fills mss stream (s .ring .unsent) (lastLength (s .ring) m)) refl
     where
-      go : Dec (new mss stream bytes s m < 128) → Dec (free < new mss stream bytes s m) → P (leftAt mss stream bytes s m (verdictAt mss stream bytes s m))
-      go (no h) k = let l : 128 ≤ new mss stream bytes s m = omega arith in rw (judged-big l) (big l)
-      go (yes h) (yes k) = rw (judged-full h k) (full h k)
-      go (yes h) (no k) = let l : new mss stream bytes s m ≤ free = omega arith in rw (judged-fits h l) (all h l)
+      go : (t : Bool) → fills mss stream (s .ring .unsent) (lastLength (s .ring) m) ≡ t → P (pick t (longer mss stream bytes s m) m)
+      go true e = b e
+      go false e = a
+
+  longer-slots : length ((longer mss stream bytes s m) .marks) ≡ length (m .marks)
+  unfolding filled
+  longer-slots = simp length-set
+
+  pub filled-keeps : Keeps (s .ring) m (laid (s .ring) (filledAt mss stream bytes s m))
+  filled-keeps =
+      filled-by (λ (q : Store). Keeps (s .ring) m (laid (s .ring) q)) (keeps-same (s .ring) m o)
+      (λ e.
+      let n = fill-needs mss stream bytes s m _ refl e o small (joining mss stream bytes s m) (omega arith) in
+      record {
+        sound = fill-sound 8 (s .ring) m o (n .0) (joined mss stream bytes s m) (n .1 .1) frg 0 (omega arith);
+        slots = longer-slots;
+        flight = fill-flight 8 (s .ring) m o (n .0) (joined mss stream bytes s m) (n .1 .1) frg 0 (omega arith);
+        flying = refl;
+      })
+
+  -- ---- and the new segments
+
+  pub made-keeps : Keeps (s .ring) m (spaced mss stream bytes s m)
+  made-keeps = keeps-on filled-keeps (spaced-keeps (new mss stream bytes s m) (s .ring) (filledAt mss stream bytes s m) (filled-keeps .sound))
+
+  module _ (room : new mss stream bytes s m ≤ free mss stream bytes s m) where
+    pub made-room : spaced mss stream bytes s m .ring .reach + spaced mss stream bytes s m .ring .unsent + new mss stream bytes s m ≤ length (m .marks)
+    made-room =
+        let e = filled-keeps .slots in
+        let r = spaced-room (new mss stream bytes s m) (s .ring) (filledAt mss stream bytes s m) (filled-keeps .sound) (omega arith) in
+        omega arith
+
+    pub sent-behind : Behind (new mss stream bytes s m) (pieces-of mss stream bytes s m) (spaced mss stream bytes s m) (sentAt mss stream bytes s m)
+    unfolding sentAt
+    sent-behind =
+        let e = made-keeps .slots in
+        let r = made-room in
+        queued-behind mss stream small (new mss stream bytes s m) (drop (joining mss stream bytes s m) bytes) (spaced mss stream bytes s m) (made-keeps .sound) (omega arith)
+
+    pub sent-keeps : Keeps (s .ring) m (sentAt mss stream bytes s m)
+    sent-keeps = keeps-on made-keeps (sent-behind .keeps)
 
   -- ---- `send`: the last queued segment has `last` bytes, and k new ones are needed
 
@@ -129,23 +136,23 @@ module _ (mss : ℕ) (stream : Bool) (bytes : List ℕ) (s : Sender) (m : Store)
     pub sent-big : 128 ≤ k → (o′ : Sent) (m′ : Store) → o′ ≡ record { sender = s; answer = Refused UserBufTooBig } → m′ ≡ filledAt mss stream bytes s m → SentAs mss stream bytes s m o′ m′
     unfolding sendAt answerAt leftAt
     sent-big h o′ m′ d w =
-        let v = judged-big (rw new-is at h) in
+        let v = judged-big mss stream bytes s m (rw new-is at h) in
         record { sends = rw (v, d, w); answers = rw (v, d) }
 
     module _ (few : k < 128) where
-      pub sent-full : free < k → (o′ : Sent) → o′ ≡ record { sender = s; answer = Refused SendPoolFull } → SentAs mss stream bytes s m o′ m
+      pub sent-full : free mss stream bytes s m < k → (o′ : Sent) → o′ ≡ record { sender = s; answer = Refused SendPoolFull } → SentAs mss stream bytes s m o′ m
       unfolding sendAt answerAt leftAt
       sent-full h o′ d =
-          let v = judged-full (rw new-is at few) (rw new-is at h) in
+          let v = judged-full mss stream bytes s m (rw new-is at few) (rw new-is at h) in
           record { sends = rw (v, d); answers = rw (v, d) }
 
       -- all is queued, from byte `from` on: f is the filled memory, and the ring r in the lists a and b has room
-      module _ (room : k ≤ free) (from : ℕ) (j : from ≡ joins mss stream (s .ring .unsent) last (length bytes)) (f : Store) (w : f ≡ filledAt mss stream bytes s m) where
+      module _ (room : k ≤ free mss stream bytes s m) (from : ℕ) (j : from ≡ joins mss stream (s .ring .unsent) last (length bytes)) (f : Store) (w : f ≡ filledAt mss stream bytes s m) where
         pub room-needs : Sound 8 (s .ring) f × (k ≤ 65535)
         room-needs = (rw w (filled-keeps .sound), omega arith)
 
         module _ (r : SndRing) (a b : List ℕ) (y : laid r (storeOf 8 (lists a b)) ≡ spacedAt k (laid (s .ring) f)) where
-          made-is : laid r (storeOf 8 (lists a b)) ≡ spaced
+          made-is : laid r (storeOf 8 (lists a b)) ≡ spaced mss stream bytes s m
           made-is = y ∙ rw (w, new-is)
 
           pub queue-needs : Shaped 8 r (storeOf 8 (lists a b)) × ((r .reach + r .unsent + k ≤ length a / 9) × ((mss ≤ 1476) × (from ≤ length bytes)))
@@ -162,5 +169,5 @@ module _ (mss : ℕ) (stream : Bool) (bytes : List ℕ) (s : Sender) (m : Store)
               → SentAs mss stream bytes s m (record { sender = s′; answer = Are (length bytes) }) (z .store)
           unfolding sendAt answerAt leftAt sentAt
           sent-all z g s′ d =
-              let v = judged-fits (rw new-is at few) (rw new-is at room) in
+              let v = judged-fits mss stream bytes s m (rw new-is at few) (rw new-is at room) in
               record { sends = rw (v, d, g, made-is, j, l, new-is); answers = rw v }
