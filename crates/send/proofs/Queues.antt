@@ -6,8 +6,7 @@ use mathlib.Core.Bool.{Bool}
 use mathlib.Core.List.{List, [], _∷_, _++_, map, append-assoc, append-nil}
 use lib.ListN.{length, take, drop, length-take, length-set}
 use Rattle.serial.specs.Branch.{pick}
-use Rattle.snd_ring.specs.declared.SndRing.{SndRing}
-use Rattle.snd_ring.specs.Store.{Store, Stored, segment, waitingOf, Sound}
+use Rattle.snd_ring.specs.Store.{Stored, segment, waitingOf, Sound}
 use Rattle.snd_ring.specs.Steps.{appendedRing, appended, written}
 use Rattle.snd_ring.proofs.Views.{append-flight, append-waiting, append-sound}
 use Rattle.sending.specs.Rules.{Segment}

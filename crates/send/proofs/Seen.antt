@@ -8,21 +8,20 @@ use mathlib.Core.Bool.{Bool, true, false}
 use mathlib.Core.List.{List, [], _∷_, _++_, map}
 use lib.ListN.{length, take, drop, getD, set, length-map, List·getD-map}
 use Rattle.serial.specs.Branch.{pick}
-use Rattle.ring.specs.Places.{place}
 use Rattle.ring.proofs.Rows.{part-length}
 use Rattle.ring.proofs.Places.{place-in}
 use Rattle.ring.proofs.Sequences.{map-append}
-use Rattle.snd_ring.specs.Store.{Store, Stored, segment, flightOf, waitingOf, Sound}
-use Rattle.snd_ring.specs.Steps.{lastPlace, filled as filledIn}
+use Rattle.snd_ring.specs.Store.{Store, Stored, segment, waitingOf, Sound}
+use Rattle.snd_ring.specs.Steps.{lastPlace}
 use Rattle.snd_ring.proofs.Views.{segmentAt, in-rows, in-room, waiting-length, waiting-at}
 use Rattle.snd_ring.proofs.Fills.{fill-flight, fill-waiting}
 use Rattle.block.specs.declared.sender.Sender.{Sender}
 use Rattle.block.specs.Parts.{withSndRing}
-use Rattle.sending.specs.Rules.{Segment, Sending}
+use Rattle.sending.specs.Rules.{Segment}
 use Rattle.sending.specs.Send.{fills, joins, pieces, needed, verdict, waits, cut, lastOf, lastSize, topped, withWaiting, filled, queued, leftBy, send}
 use Rattle.transmit.specs.Memory.{segmentOf, seen, Side, frg}
-use Rattle.send.specs.Memory.{lastLength, joining, new, verdictAt, filledAt, sentAt, leftAt, sendAt}
-use Rattle.send.proofs.Numbers.{fills-zero, fills-facts, joins-none, verdict-big, verdict-full, verdict-fits}
+use Rattle.send.specs.Memory.{lastLength, joining, new, filledAt, sentAt, sendAt}
+use Rattle.send.proofs.Numbers.{fills-zero, joins-none, verdict-big, verdict-full, verdict-fits}
 use Rattle.send.proofs.Spaces.{spaced-waiting}
 use Rattle.send.proofs.Queues.{storedOf}
 use Rattle.send.proofs.Steps.{fill-needs}

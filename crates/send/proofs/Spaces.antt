@@ -7,7 +7,7 @@ use borrow.Author.Tests.{lt-ltb, le-ltb}
 use Rattle.serial.specs.Branch.{pick-true, pick-false}
 use Rattle.ring.proofs.Places.{by-less}
 use Rattle.snd_ring.specs.declared.SndRing.{SndRing}
-use Rattle.snd_ring.specs.Store.{Store, Stored, flightOf, waitingOf, Sound}
+use Rattle.snd_ring.specs.Store.{Store, flightOf, waitingOf, Sound}
 use Rattle.snd_ring.specs.Steps.{settled, closedRing, closed}
 use Rattle.snd_ring.proofs.Closing.{close-flight, close-waiting, close-sound, close-slots, close-reach, close-flying, flying-few}
 use Rattle.send.specs.Memory.{Laid, laid, spacedAt}

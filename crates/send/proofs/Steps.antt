@@ -4,7 +4,7 @@ use native.Mathlib.Omega.{arith}
 use native.Mathlib.Decide.{decLt}
 use mathlib.Core.Path.{_≡_, refl, sym, ap, _∙_}
 use mathlib.Core.Bool.{Bool, true, false}
-use mathlib.Core.List.{List, [], _∷_}
+use mathlib.Core.List.{List}
 use lib.ListN.{length, take, drop, getD, length-drop, length-take, drop-of-length-le}
 use lib.Seq.{drop-drop, take-all}
 use Rattle.serial.specs.Branch.{pick, pick-true, pick-false}
@@ -20,8 +20,8 @@ use Rattle.snd_ring.proofs.Views.{written-sized, written-slots}
 use Rattle.block.specs.declared.sender.Sender.{Sender}
 use Rattle.sending.specs.Send.{fills, joins, cut}
 use Rattle.transmit.specs.Memory.{frg}
-use Rattle.send.specs.Memory.{Laid, laid, lastLength, rowOf, queuedAt, joining, filledAt}
-use Rattle.send.proofs.Numbers.{fills-facts, joins-within, joins-fit}
+use Rattle.send.specs.Memory.{Laid, laid, lastLength, rowOf, queuedAt, filledAt}
+use Rattle.send.proofs.Numbers.{fills-facts, joins-fit}
 
 -- ---- `last_length`: q is the place of the last index in use
 
