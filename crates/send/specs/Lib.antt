@@ -1,2 +1,3 @@
 pub mod Memory
 pub mod Whole
+pub mod Examples

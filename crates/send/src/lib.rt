@@ -1,8 +1,8 @@
 // send in lent memory: how many segments it needs, the fill of the last queued one, and the new ones. It requires that the memory is well
 // formed; the public call tests that and then sends.
 ghost use mathlib.Core.Path.{_≡_};
-ghost use mathlib.Core.List.{[]};
-ghost use Prim.Native.Nat.{_+_, _-_, _/_, _<_, _≤_, min};
+ghost use mathlib.Core.List.{List};
+ghost use Prim.Native.Nat.{ℕ, _+_, _-_, _/_, _<_, _≤_, min};
 ghost use lib.ListN.{length, drop};
 ghost use Rattle.serial.specs.Branch.{pick};
 ghost use Rattle.ring.specs.Lists.{lists};
@@ -79,8 +79,10 @@ fn end_of(mss: usize, from: usize, n: usize) -> usize
 
 // The length of the last queued segment's payload.
 fn last_length(ring: SndRing, records: &[u32]) -> usize
-    requires { ⌜ Shaped 8 ring (storeOf 8 (lists (now records) [])) ⌝ }
-    ensures { λ r. ⌜ r ≡ lastLength ring (storeOf 8 (lists (now (records .entry)) [])) ⌝ }
+    requires { ⌜ length (now records) / 9 ≤ 65535 ⌝ }
+    requires { ⌜ ring .start < length (now records) / 9 ⌝ }
+    requires { ⌜ ring .reach + ring .unsent ≤ length (now records) / 9 ⌝ }
+    ensures { λ r. ⌜ ((room : List ℕ) → r ≡ lastLength ring (storeOf 8 (lists (now (records .entry)) room))) ⌝ }
 {
     let n = ring.reach as usize + ring.unsent as usize;
     let last = if n == 0 { 0 } else { n - 1 };
