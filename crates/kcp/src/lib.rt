@@ -1,17 +1,14 @@
-// The public calls that are handed the memory of one side: each tests what it is handed, and then acts or changes nothing. No call requires anything of
+// The public calls that are handed the receive memory: each tests what it is handed, and then acts or changes nothing. No call requires anything of
 // its caller. A block is made by `Kcp::new` and `Kcp::new_stream`, and the setters and getters that are handed no memory are methods of it too (crate
-// block); input is crate kcp_input.
+// block); send is crate kcp_send, and input kcp_input.
 ghost use mathlib.Core.Path.{_≡_};
 ghost use Rattle.serial.specs.Branch.{pick};
 ghost use Rattle.ring.specs.Lists.{lists};
-ghost use Rattle.snd_ring.specs.Store.{storeOf};
 ghost use Rattle.receive.specs.declared.Length.the-variants.{Refused};
 ghost use Rattle.receive.specs.Fits.{receiveFits};
 ghost use Rattle.kcp.specs.Calls.{badPool, Promised, moveBufOf, Peeked, Receives, setWndsizeOf, wndsizeNumber};
-ghost use Rattle.kcp.specs.Send.{Sends};
 use block::Kcp;
 use block::refusal::Answer;
-use block::refusal::Bytes;
 use block::refusal::Refusal;
 use block::set::Set;
 use receive::Length;
@@ -20,12 +17,6 @@ use receive::Length;
 pub struct Received {
     pub block: Kcp,
     pub answer: Length,
-}
-
-// The block after a send, and its answer.
-pub struct Sent {
-    pub block: Kcp,
-    pub answer: Bytes,
 }
 
 // Refused by 15: all as it was.
@@ -110,34 +101,4 @@ pub fn set_wndsize(block: Kcp, sndwnd: u16, rcvwnd: u16, records: &[u32], room: 
         return bad_pool(block);
     }
     receive::set_wndsize(block, records.len(), sndwnd, rcvwnd)
-}
-
-// Queues the bytes, and answers how many. Refused by 15, which leaves all, by 8, which leaves what joined the last segment of a stream, or by
-// 12, which leaves all.
-pub fn send(block: Kcp, records: &mut [u32], room: &mut [u8], bytes: &[u8]) -> Sent
-    ensures { λ r. ⌜ Sends block (lists (now (records .entry)) (now (room .entry))) (now (bytes .entry))
-        (record { block = r .block; answer = r .answer; store = storeOf 8 (lists (now (records .exit)) (now (room .exit))) }) ⌝ }
-{
-    if !transmit::fits(block, records, room) {
-        return Sent {
-            block: block,
-            answer: Bytes::Refused {
-                why: Refusal::BadPool,
-            },
-        };
-    }
-    let settings = block.settings;
-    let out = send::send(
-        block.sender,
-        settings.mss,
-        settings.stream,
-        records,
-        room,
-        bytes,
-    );
-    let answer = out.answer;
-    Sent {
-        block: block.with_sender(out.sender),
-        answer: answer,
-    }
 }

@@ -47,7 +47,7 @@ same-length-2 c = search needs
 
 -- src/setters.rt:98:1
 returns-2 : tie.Need-returns-2
-returns-2 c = 
+returns-2 c =
     let a = c .before .before .before .before .before .before .before .before .before .before .before .args in
     let l = a .words .now in
     set-done (λ k. setConv k (a .conv)) 0 l (λ m. set m 16 (setConv (blockOf l) (a .conv) .settings .conv)) (c .before .before .before .before .before .before .before .before .is-block .ensures) (c .before .before .before .before .before .before .before .if1 .left) (λ i. omega (arith, c .before .before .before .before .before .before .before .before .before .before .slice-known .given i)) (conv-words (blockOf l) (a .conv)) refl (cc)

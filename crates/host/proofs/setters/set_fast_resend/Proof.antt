@@ -47,7 +47,7 @@ same-length-2 c = search needs
 
 -- src/setters.rt:62:1
 returns-2 : tie.Need-returns-2
-returns-2 c = 
+returns-2 c =
     let a = c .before .before .before .before .before .before .before .before .before .before .before .args in
     let l = a .words .now in
     set-done (λ k. setFastResend k (a .fr)) 0 l (λ m. set m 32 (setFastResend (blockOf l) (a .fr) .settings .fastresend)) (c .before .before .before .before .before .before .before .before .is-block .ensures) (c .before .before .before .before .before .before .before .if1 .left) (λ i. omega (arith, c .before .before .before .before .before .before .before .before .before .before .slice-known .given i)) (resend-words (blockOf l) (a .fr)) refl (cc)

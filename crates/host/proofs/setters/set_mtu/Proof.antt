@@ -52,7 +52,7 @@ same-length-2 c = search needs
 
 -- src/setters.rt:9:1
 returns-2 : tie.Need-returns-2
-returns-2 c = 
+returns-2 c =
     let a = c .before .before .before .before .before .before .before .before .before .before .before .before .before .args in
     let l = a .words .now in
     set-done (λ k. setMtu k (a .mtu) .block) (pick (mtuSize (a .mtu)) 0 10) l (λ m. withMtuWords (setMtu (blockOf l) (a .mtu) .block .settings) m) (c .before .before .before .before .before .before .before .before .before .before .is-block .ensures) (c .before .before .before .before .before .before .before .before .before .if1 .left) (λ i. omega (arith, c .before .before .before .before .before .before .before .before .before .before .before .before .slice-known .given i)) (mtu-words (blockOf l) (a .mtu)) (c .number .ensures ∙ c .before .before .before .before .before .before .set-mtu .ensures .refusal) (let e = ap (λ (x : Set). x .block) (c .before .before .before .before .before .before .set-mtu .ensures .outcome) in cc)

@@ -62,7 +62,7 @@ same-length-2 c = search needs
 
 -- src/setters.rt:35:1
 returns-2 : tie.Need-returns-2
-returns-2 c = 
+returns-2 c =
     let a = c .before .before .before .before .before .before .before .before .before .before .before .before .before .before .before .before .before .before .before .before .before .before .before .args in
     let l = a .words .now in
     let b = setNodelay (blockOf l) (a .nodelay) (a .interval) (a .resend) (a .nc) in
