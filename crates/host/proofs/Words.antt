@@ -4,7 +4,7 @@ use mathlib.Core.Path.{_≡_, refl, sym, ap, _∙_}
 use mathlib.Core.Bool.{Bool, true, false, not, _&&_}
 use mathlib.Core.List.{List}
 use lib.IntN.{ℤ}
-use lib.ListN.{length, set, length-set}
+use lib.ListN.{length, set}
 use borrow.Author.Tests.{eq-eqb, ne-eqb, not-true, not-false}
 use Rattle.serial.specs.Branch.{pick, pick-true, pick-false}
 use Rattle.block.specs.declared.Kcp.{Kcp}
@@ -18,7 +18,7 @@ use Rattle.block.specs.Fresh.{Lent, lentSizes, madeOf, Makes}
 use Rattle.block.specs.Sizes.{mtuSize, mssOf}
 use Rattle.block.specs.Parts.{withSettings, withMtu}
 use Rattle.block.specs.Setters.{setMtu, setInterval, setNodelay, setRxMinrto, setFastResend, setMaximumResendTimes, inputConv, setConv}
-use Rattle.words.specs.Words.{at, flagsOf, wordsOf, blockOf, isBlock, withFlags, withMtuWords}
+use Rattle.words.specs.Words.{at, wordsOf, blockOf, isBlock, withFlags, withMtuWords, withNodelayWords}
 use Rattle.words.proofs.Tests.{block-length}
 use Rattle.words.proofs.Back.{words-back}
 use Rattle.host.specs.Words.{setWords, WordsSet, canMake, WordsMade}
@@ -46,13 +46,9 @@ module _ (f : Kcp → Kcp) (n : ℕ) (l : List ℕ) where
 pub held-length : (l : List ℕ) {t : Bool} → t ≡ isBlock l → not t ≡ false → length l ≡ 35
 held-length l {t} e h = block-length l (sym e ∙ not-false t h)
 
--- each of several writes finds as many words
-pub flags-length : (k : Kcp) (l : List ℕ) → length (withFlags k l) ≡ length l
-unfolding withFlags
-flags-length k l = length-set l 0 (flagsOf k)
-
-pub word-length : (l m : List ℕ) (i x : ℕ) → m ≡ set l i x → length l ≡ 35 → length m ≡ 35
-word-length l m i x e h = ap length e ∙ length-set l i x ∙ h
+pub nodelay-put : (l : List ℕ) (nodelay : Bool) (interval resend : ℤ) (nc : Bool) {m : List ℕ} {x b : Kcp} → m ≡ withNodelayWords x l → x ≡ setNodelay b nodelay interval resend nc → b ≡ blockOf l
+    → m ≡ withNodelayWords (setNodelay (blockOf l) nodelay interval resend nc) l
+nodelay-put l nodelay interval resend nc d e f = rw (d, e, f)
 
 -- what each writes in the words of a block
 module _ (k : Kcp) where
@@ -71,9 +67,8 @@ module _ (k : Kcp) where
   unfolding wordsOf
   interval-words x = refl
 
-  pub nodelay-words : (nodelay : Bool) (interval resend : ℤ) (nc : Bool)
-      → (let b = setNodelay k nodelay interval resend nc in set (set (set (withFlags b (wordsOf k)) 26 (b .estimator .minrto)) 28 (b .clock .interval)) 32 (b .settings .fastresend) ≡ wordsOf b)
-  unfolding withFlags wordsOf
+  pub nodelay-words : (nodelay : Bool) (interval resend : ℤ) (nc : Bool) → withNodelayWords (setNodelay k nodelay interval resend nc) (wordsOf k) ≡ wordsOf (setNodelay k nodelay interval resend nc)
+  unfolding withNodelayWords wordsOf
   nodelay-words nodelay interval resend nc = refl
 
   pub minrto-words : (x : ℕ) → set (wordsOf k) 26 (setRxMinrto k x .estimator .minrto) ≡ wordsOf (setRxMinrto k x)

@@ -39,10 +39,7 @@ pub fn set_nodelay(words: &mut [u32], nodelay: bool, interval: i32, resend: i32,
         return 15;
     }
     let after = words::block(words).set_nodelay(nodelay, interval, resend, nc);
-    words::put_flags(after, words);
-    words::put_minrto(words, after.estimator.minrto);
-    words::put_interval(words, after.clock.interval);
-    words::put_fastresend(words, after.settings.fastresend);
+    words::put_nodelay(after, words);
     0
 }
 

@@ -134,27 +134,5 @@ withGrowth c l =
 unfoldable pub withTimes : Estimator → List ℕ → List ℕ
 withTimes e l = set (set (set (set l 23 (e .srtt)) 24 (e .rttval)) 25 (e .rto)) 26 (e .minrto)
 
--- one word
-abbrev pub withProbeBits : ℕ → List ℕ → List ℕ
-withProbeBits x l = set l 15 x
-
-abbrev pub withAcks : ℕ → List ℕ → List ℕ
-withAcks x l = set l 13 x
-
-abbrev pub withConvWord : ℕ → List ℕ → List ℕ
-withConvWord x l = set l 16 x
-
-abbrev pub withUnaWord : ℕ → List ℕ → List ℕ
-withUnaWord x l = set l 17 x
-
-abbrev pub withMinrtoWord : ℕ → List ℕ → List ℕ
-withMinrtoWord x l = set l 26 x
-
-abbrev pub withIntervalWord : ℕ → List ℕ → List ℕ
-withIntervalWord x l = set l 28 x
-
-abbrev pub withFastresendWord : ℕ → List ℕ → List ℕ
-withFastresendWord x l = set l 32 x
-
-abbrev pub withDeadLinkWord : ℕ → List ℕ → List ℕ
-withDeadLinkWord x l = set l 34 x
+unfoldable pub withNodelayWords : Kcp → List ℕ → List ℕ
+withNodelayWords k l = set (set (set (set l 0 (flagsOf k)) 26 (k .estimator .minrto)) 28 (k .clock .interval)) 32 (k .settings .fastresend)

@@ -4,7 +4,7 @@ ghost use mathlib.Core.Path.{_≡_};
 ghost use mathlib.Core.Bool.{_&&_};
 ghost use Prim.Native.Nat.{_+_, _*_, _/_, _%_, _<_};
 ghost use lib.ListN.{length, set};
-ghost use Rattle.words.specs.Words.{bit, pair, flagsOf, wordsOf, at, low, high, flag, settingsOf, clockOf, estimatorOf, congestionOf, probeOf, receiverOf, acklistOf, senderOf, blockOf, isBlock, withFlags, withMtuWords, withRcvWords, withSndWords, withWindows, withGrowth, withTimes};
+ghost use Rattle.words.specs.Words.{bit, pair, flagsOf, wordsOf, at, low, high, flag, settingsOf, clockOf, estimatorOf, congestionOf, probeOf, receiverOf, acklistOf, senderOf, blockOf, isBlock, withFlags, withMtuWords, withRcvWords, withSndWords, withWindows, withGrowth, withTimes, withNodelayWords};
 use block::Kcp;
 use block::acklist::AckList;
 use block::clock::Clock;
@@ -298,6 +298,17 @@ pub fn put_flags(block: Kcp, words: &mut [u32])
     ensures { λ _. ⌜ now (words .exit) ≡ withFlags block (now (words .entry)) ⌝ }
 {
     words[0] = flags_of(block);
+}
+
+// Writes what set_nodelay sets: the flags, rx_minrto, the interval and fastresend.
+pub fn put_nodelay(block: Kcp, words: &mut [u32])
+    requires { ⌜ length (now words) ≡ 35 ⌝ }
+    ensures { λ _. ⌜ now (words .exit) ≡ withNodelayWords block (now (words .entry)) ⌝ }
+{
+    words[0] = flags_of(block);
+    words[26] = block.estimator.minrto;
+    words[28] = block.clock.interval;
+    words[32] = block.settings.fastresend;
 }
 
 // Writes mtu and mss.

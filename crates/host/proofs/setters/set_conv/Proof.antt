@@ -1,3 +1,4 @@
+use Rattle.block.specs.declared.Kcp.{Kcp}
 use native.Mathlib.Omega.{arith}
 use mathlib.Core.Path.{refl, ap, _∙_}
 use lib.ListN.{set}
@@ -50,7 +51,8 @@ returns-2 : tie.Need-returns-2
 returns-2 c =
     let a = c .before .before .before .before .before .before .before .before .before .before .before .args in
     let l = a .words .now in
-    set-done (λ k. setConv k (a .conv)) 0 l (λ m. set m 16 (setConv (blockOf l) (a .conv) .settings .conv)) (c .before .before .before .before .before .before .before .before .is-block .ensures) (c .before .before .before .before .before .before .before .if1 .left) (λ i. omega (arith, c .before .before .before .before .before .before .before .before .before .before .slice-known .given i)) (conv-words (blockOf l) (a .conv)) refl (cc)
+    set-done (λ k. setConv k (a .conv)) 0 l (λ m. set m 16 (setConv (blockOf l) (a .conv) .settings .conv)) (c .before .before .before .before .before .before .before .before .is-block .ensures) (c .before .before .before .before .before .before .before .if1 .left) (λ i. omega (arith, c .before .before .before .before .before .before .before .before .before .before .slice-known .given i)) (conv-words (blockOf l) (a .conv)) refl
+    (c .before .before .put-conv .ensures ∙ ap (λ (k : Kcp). set l 16 (k .settings .conv)) (c .before .before .before .before .set-conv .ensures ∙ ap (λ (x : Kcp). setConv x (a .conv)) (c .before .before .before .before .before .block .ensures)))
 
 pub set-conv-spec : {M : Type 1} → statement M
 set-conv-spec =

@@ -1,3 +1,4 @@
+use Rattle.block.specs.declared.Kcp.{Kcp}
 use native.Mathlib.Omega.{arith}
 use mathlib.Core.Path.{refl, ap, _∙_}
 use lib.ListN.{set}
@@ -50,7 +51,8 @@ returns-2 : tie.Need-returns-2
 returns-2 c =
     let a = c .before .before .before .before .before .before .before .before .before .before .before .args in
     let l = a .words .now in
-    set-done (λ k. setFastResend k (a .fr)) 0 l (λ m. set m 32 (setFastResend (blockOf l) (a .fr) .settings .fastresend)) (c .before .before .before .before .before .before .before .before .is-block .ensures) (c .before .before .before .before .before .before .before .if1 .left) (λ i. omega (arith, c .before .before .before .before .before .before .before .before .before .before .slice-known .given i)) (resend-words (blockOf l) (a .fr)) refl (cc)
+    set-done (λ k. setFastResend k (a .fr)) 0 l (λ m. set m 32 (setFastResend (blockOf l) (a .fr) .settings .fastresend)) (c .before .before .before .before .before .before .before .before .is-block .ensures) (c .before .before .before .before .before .before .before .if1 .left) (λ i. omega (arith, c .before .before .before .before .before .before .before .before .before .before .slice-known .given i)) (resend-words (blockOf l) (a .fr)) refl
+    (c .before .before .put-fastresend .ensures ∙ ap (λ (k : Kcp). set l 32 (k .settings .fastresend)) (c .before .before .before .before .set-fast-resend .ensures ∙ ap (λ (x : Kcp). setFastResend x (a .fr)) (c .before .before .before .before .before .block .ensures)))
 
 pub set-fast-resend-spec : {M : Type 1} → statement M
 set-fast-resend-spec =

@@ -1,3 +1,4 @@
+use Rattle.block.specs.declared.Kcp.{Kcp}
 use native.Mathlib.Omega.{arith}
 use mathlib.Core.Path.{refl, ap, _∙_}
 use lib.ListN.{set}
@@ -50,7 +51,8 @@ returns-2 : tie.Need-returns-2
 returns-2 c =
     let a = c .before .before .before .before .before .before .before .before .before .before .before .args in
     let l = a .words .now in
-    set-done (λ k. setInterval k (a .interval)) 0 l (λ m. set m 28 (setInterval (blockOf l) (a .interval) .clock .interval)) (c .before .before .before .before .before .before .before .before .is-block .ensures) (c .before .before .before .before .before .before .before .if1 .left) (λ i. omega (arith, c .before .before .before .before .before .before .before .before .before .before .slice-known .given i)) (interval-words (blockOf l) (a .interval)) refl (cc)
+    set-done (λ k. setInterval k (a .interval)) 0 l (λ m. set m 28 (setInterval (blockOf l) (a .interval) .clock .interval)) (c .before .before .before .before .before .before .before .before .is-block .ensures) (c .before .before .before .before .before .before .before .if1 .left) (λ i. omega (arith, c .before .before .before .before .before .before .before .before .before .before .slice-known .given i)) (interval-words (blockOf l) (a .interval)) refl
+    (c .before .before .put-interval .ensures ∙ ap (λ (k : Kcp). set l 28 (k .clock .interval)) (c .before .before .before .before .set-interval .ensures ∙ ap (λ (x : Kcp). setInterval x (a .interval)) (c .before .before .before .before .before .block .ensures)))
 
 pub set-interval-spec : {M : Type 1} → statement M
 set-interval-spec =

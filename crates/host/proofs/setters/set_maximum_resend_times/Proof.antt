@@ -1,3 +1,4 @@
+use Rattle.block.specs.declared.Kcp.{Kcp}
 use native.Mathlib.Omega.{arith}
 use mathlib.Core.Path.{refl, ap, _∙_}
 use lib.ListN.{set}
@@ -50,7 +51,8 @@ returns-2 : tie.Need-returns-2
 returns-2 c =
     let a = c .before .before .before .before .before .before .before .before .before .before .before .args in
     let l = a .words .now in
-    set-done (λ k. setMaximumResendTimes k (a .dead-link)) 0 l (λ m. set m 34 (setMaximumResendTimes (blockOf l) (a .dead-link) .settings .«dead_link»)) (c .before .before .before .before .before .before .before .before .is-block .ensures) (c .before .before .before .before .before .before .before .if1 .left) (λ i. omega (arith, c .before .before .before .before .before .before .before .before .before .before .slice-known .given i)) (dead-words (blockOf l) (a .dead-link)) refl (cc)
+    set-done (λ k. setMaximumResendTimes k (a .dead-link)) 0 l (λ m. set m 34 (setMaximumResendTimes (blockOf l) (a .dead-link) .settings .«dead_link»)) (c .before .before .before .before .before .before .before .before .is-block .ensures) (c .before .before .before .before .before .before .before .if1 .left) (λ i. omega (arith, c .before .before .before .before .before .before .before .before .before .before .slice-known .given i)) (dead-words (blockOf l) (a .dead-link)) refl
+    (c .before .before .put-dead-link .ensures ∙ ap (λ (k : Kcp). set l 34 (k .settings .«dead_link»)) (c .before .before .before .before .set-maximum-resend-times .ensures ∙ ap (λ (x : Kcp). setMaximumResendTimes x (a .dead-link)) (c .before .before .before .before .before .block .ensures)))
 
 pub set-maximum-resend-times-spec : {M : Type 1} → statement M
 set-maximum-resend-times-spec =

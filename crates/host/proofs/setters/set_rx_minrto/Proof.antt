@@ -1,3 +1,4 @@
+use Rattle.block.specs.declared.Kcp.{Kcp}
 use native.Mathlib.Omega.{arith}
 use mathlib.Core.Path.{refl, ap, _∙_}
 use lib.ListN.{set}
@@ -50,7 +51,8 @@ returns-2 : tie.Need-returns-2
 returns-2 c =
     let a = c .before .before .before .before .before .before .before .before .before .before .before .args in
     let l = a .words .now in
-    set-done (λ k. setRxMinrto k (a .rto)) 0 l (λ m. set m 26 (setRxMinrto (blockOf l) (a .rto) .estimator .minrto)) (c .before .before .before .before .before .before .before .before .is-block .ensures) (c .before .before .before .before .before .before .before .if1 .left) (λ i. omega (arith, c .before .before .before .before .before .before .before .before .before .before .slice-known .given i)) (minrto-words (blockOf l) (a .rto)) refl (cc)
+    set-done (λ k. setRxMinrto k (a .rto)) 0 l (λ m. set m 26 (setRxMinrto (blockOf l) (a .rto) .estimator .minrto)) (c .before .before .before .before .before .before .before .before .is-block .ensures) (c .before .before .before .before .before .before .before .if1 .left) (λ i. omega (arith, c .before .before .before .before .before .before .before .before .before .before .slice-known .given i)) (minrto-words (blockOf l) (a .rto)) refl
+    (c .before .before .put-minrto .ensures ∙ ap (λ (k : Kcp). set l 26 (k .estimator .minrto)) (c .before .before .before .before .set-rx-minrto .ensures ∙ ap (λ (x : Kcp). setRxMinrto x (a .rto)) (c .before .before .before .before .before .block .ensures)))
 
 pub set-rx-minrto-spec : {M : Type 1} → statement M
 set-rx-minrto-spec =
