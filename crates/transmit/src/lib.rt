@@ -31,12 +31,11 @@ fn acknowledged_count(ring: SndRing, records: &[u32], una: u32) -> u32
     ensures { λ r. ⌜ ((room : List ℕ) → r ≡ acknowledgedBy una (flyingNumbers ring (storeOf 8 (lists (now (records .entry)) room)))) ⌝ }
 {
     let slots = snd_ring::slots_in(records.len());
-    let start = ring.start as usize;
     let reach = ring.reach as usize;
     let mut n: u32 = 0;
     let mut i = 0;
     while i < reach {
-        let q = ring::place_of(slots, start, i);
+        let q = ring::place_of(slots, ring.start as usize, i);
         if records[q] != 0 {
             if !serial::after(una, snd_ring::number_at(records, slots, q, SN)) {
                 return n;
@@ -87,11 +86,10 @@ fn seek(ring: SndRing, records: &[u32], sn: u32) -> Sought
     ensures { λ r. ⌜ ((room : List ℕ) → Ends sn ring (storeOf 8 (lists (now (records .entry)) room)) r) ⌝ }
 {
     let slots = snd_ring::slots_in(records.len());
-    let start = ring.start as usize;
     let reach = ring.reach as usize;
     let mut i = 0;
     while i < reach {
-        let q = ring::place_of(slots, start, i);
+        let q = ring::place_of(slots, ring.start as usize, i);
         if records[q] != 0 {
             let n = snd_ring::number_at(records, slots, q, SN);
             if n == sn {

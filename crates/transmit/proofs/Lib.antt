@@ -1,0 +1,4 @@
+pub mod Numbers
+pub mod Seen
+pub mod Exact
+pub mod Steps
