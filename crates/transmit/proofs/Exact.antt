@@ -4,9 +4,11 @@ use Prim.Native.Nat.{ℕ, _+_, _-_, _*_, _/_, _≤_, _<_}
 use native.Mathlib.Omega.{arith}
 use native.Mathlib.Decide.{ℕ-discrete}
 use mathlib.Core.Path.{_≡_, sym, ap, _∙_, subst}
+use mathlib.Core.Bool.{Bool, true, false, not}
 use mathlib.Core.Logic.{_⊎_, inl, inr}
 use mathlib.Core.List.{List}
 use lib.ListN.{length}
+use borrow.Author.Tests.{not-true, not-false}
 use Rattle.ring.specs.Lists.{Lists, lists}
 use Rattle.ring.specs.Counting.{count}
 use Rattle.ring.proofs.Places.{place-zero}
@@ -18,8 +20,9 @@ use Rattle.snd_ring.proofs.Tests.{fit-marked, marked-fit}
 use Rattle.block.specs.declared.sender.Sender.{Sender}
 use Rattle.block.specs.declared.Kcp.{Kcp}
 use Rattle.block.specs.Sizes.{sendSlots, RingSizes}
-use Rattle.block.specs.WellFormed.{OwnNumbers, SenderFits}
+use Rattle.block.specs.WellFormed.{ownNumbers, OwnNumbers, SenderFits}
 use Rattle.block.proofs.Exact.{Exactly, exactly-both, exactly-as, ring-sizes, own-numbers, send-numbers}
+use Rattle.block.proofs.Together.{goes, stops}
 use Rattle.sending.specs.declared.Latest.{Latest}
 use Rattle.transmit.specs.Memory.{Side, side, unaAt, ackAt, fastackAt}
 use Rattle.transmit.specs.Fits.{sendLent, SendLent, sendFits, SendFits, Lies}
@@ -73,6 +76,19 @@ fits-of k l own sizes o =
         marked = o .marked;
       };
     }
+
+-- `fits`: the block's own numbers decide, or the test of the memory; and what it says where it is true
+module _ (k : Kcp) (l : Lists) (t : Bool) (e : t ≡ ownNumbers k) where
+  pub no-own : not t ≡ true → false ≡ sendFits k l
+  unfolding sendFits
+  no-own h = stops _ (sym e ∙ not-true t h)
+
+  pub own-goes : not t ≡ false → (r : Bool) → r ≡ sendLent (k .sender) l → r ≡ sendFits k l
+  unfolding sendFits
+  own-goes h r d = d ∙ goes _ (sym e ∙ not-false t h)
+
+pub fits-by : (k : Kcp) (l : Lists) (r : Bool) → r ≡ sendFits k l → (r ≡ sendFits k l) × (r ≡ true → Sound 8 (k .sender .ring) (storeOf 8 l))
+fits-by k l r e = (e, λ t. sound-of k l (exactly k l .holds (sym e ∙ t)))
 
 -- the block's own numbers of a sound ring fit
 pub sender-fits-of : (s : Sender) (m : Store) → Sound 8 (s .ring) m → length (m .marks) ≤ 1024 → SenderFits s

@@ -143,9 +143,11 @@ module _ (s : Sender) (m : Store) (o : Sound 8 (s .ring) m) (x : ℕ) where
     pub found-flying : (i < s .ring .reach) × (0 < s .ring .flying)
     found-flying =
         let a = met .flies in
-        let b = o .marked .counted in
-        (a, by-less 0 (s .ring .flying) (λ h. h)
-        (λ h. let c = count-under 1 (m .marks) (s .ring .start) 0 (s .ring .reach) (omega arith) i (omega arith) (omega arith) in absurd (met .live (omega arith))))
+        let b = o .marked .counted in (
+          a,
+          by-less 0 (s .ring .flying) (λ h. h)
+              (λ h. let c = count-under 1 (m .marks) (s .ring .start) 0 (s .ring .reach) (omega arith) i (omega arith) (omega arith) in absurd (met .live (omega arith))),
+        )
 
   removed-slots : AsLarge m (removedAt i s m .store)
   unfolding removedAt gapped

@@ -1,3 +1,4 @@
+-- `transmit::acknowledged_count` meets its contract: n are counted, and what is left from index i on is still to be counted. Assumes nothing.
 use native.Mathlib.Omega.{arith}
 use Prim.Native.Nat.{_+_, _-_, _≤_}
 use mathlib.Core.Path.{_≡_, sym, ap, _∙_}
@@ -12,12 +13,6 @@ use Rattle.transmit.specs.Memory.{flyingNumbers}
 use Rattle.transmit.proofs.Numbers.{left-all, left-gap, mark-is, number-is, numbers-room, more, counts-end, counts-on, counts-stop}
 use Rattle.transmit.proofs.acknowledged_count.Statement.{statement}
 use Rattle.transmit.proofs.acknowledged_count.Tie as tie
-use Rattle.transmit.proofs.acknowledged_count.Reads as reads
-use Rattle.transmit.proofs.acknowledged_count.Lts as lts
-use Rattle.ring.proofs.place_of.Reads as place-of-reads
-use Rattle.serial.proofs.after.Reads as after-reads
-use Rattle.snd_ring.proofs.number_at.Reads as number-at-reads
-use Rattle.snd_ring.proofs.slots_in.Reads as slots-in-reads
 
 abbrev Inv-loop : tie.InvT-loop
 Inv-loop ring records una slots reach n₀ i₀ n i =
@@ -26,46 +21,36 @@ Inv-loop ring records una slots reach n₀ i₀ n i =
 abbrev μ-loop : tie.MeasureT-loop
 μ-loop ring records una slots reach n₀ i₀ n i = ring .reach - i
 
--- src/lib.rt:33:9
 slots-in-requires : tie.Need-slots-in-requires Inv-loop μ-loop
 slots-in-requires c κs = omega arith
 
--- src/lib.rt:34:17
 cast-reach : tie.Need-cast-reach Inv-loop μ-loop
 cast-reach c = omega arith
 
--- src/lib.rt:37:5
 loop-holds : tie.Need-loop-holds Inv-loop μ-loop
 loop-holds c =
     let a = c .before .before .before .args in
     let e = ap (acknowledgedBy (a .una)) (left-all (a .ring) (storeOf 8 (lists (a .records .now) []))) in
     (omega arith, omega arith, omega arith)
 
--- src/lib.rt:38:39
 cast-place-of : tie.Need-cast-place-of Inv-loop μ-loop
 cast-place-of c = omega arith
 
--- src/lib.rt:38:13
 place-of-requires : tie.Need-place-of-requires Inv-loop μ-loop
 place-of-requires c κs = omega arith
 
--- src/lib.rt:39:12
 mul-if1 : tie.Need-mul-if1 Inv-loop μ-loop
 mul-if1 c = omega arith
 
--- src/lib.rt:39:12
 shared-slice-read-if1 : tie.Need-shared-slice-read-if1 Inv-loop μ-loop
 shared-slice-read-if1 c = omega arith
 
--- src/lib.rt:40:36
 number-at-requires : tie.Need-number-at-requires Inv-loop μ-loop
 number-at-requires c κs = omega arith
 
--- src/lib.rt:40:17
 after-requires : tie.Need-after-requires Inv-loop μ-loop
 after-requires c κs = omega arith
 
--- src/lib.rt:41:17
 returns : tie.Need-returns Inv-loop μ-loop
 returns c =
     let a = c .before .before .before .before .before .before .before .before .before .before .before .before .args in
@@ -79,19 +64,15 @@ returns c =
     let n : l .n ≡ acknowledgedBy (a .una) (flyingNumbers (a .ring) m) = omega arith in
     λ room. n ∙ ap (acknowledgedBy (a .una)) (numbers-room (a .ring) (a .records .now) [] room)
 
--- src/lib.rt:43:13
 add-n : tie.Need-add-n Inv-loop μ-loop
 add-n c = omega arith
 
--- src/lib.rt:45:9
 add-i : tie.Need-add-i Inv-loop μ-loop
 add-i c = omega arith
 
--- src/lib.rt:37:5
 loop-less : tie.Need-loop-less Inv-loop μ-loop
 loop-less c = omega arith
 
--- src/lib.rt:37:5
 loop-again : tie.Need-loop-again Inv-loop μ-loop
 loop-again c =
     let a = c .before .before .before .before .before .before .before .before .before .args in
@@ -111,7 +92,6 @@ loop-again c =
     (omega arith, omega arith, omega arith))
     (c .if1 .came)
 
--- src/lib.rt:27:1
 returns-2 : tie.Need-returns-2 Inv-loop μ-loop
 returns-2 c =
     let a = c .before .before .before .before .before .args in

@@ -1,26 +1,25 @@
+-- `transmit::fits` meets its contract. Assumes nothing.
+use Rattle.ring.specs.Lists.{lists}
+use Rattle.transmit.proofs.Exact.{no-own, own-goes, fits-by}
 use borrow.Author.Needs.{needs}
 use Rattle.transmit.proofs.fits.Statement.{statement}
 use Rattle.transmit.proofs.fits.Tie as tie
-use Rattle.transmit.proofs.fits.Reads as reads
-use Rattle.transmit.proofs.fits.Lts as lts
-use Rattle.block.proofs.Kcp.own_numbers.Reads as own-numbers-reads
-use Rattle.transmit.proofs.lent_fits.Reads as lent-fits-reads
 
--- src/lib.rt:196:9
 own-numbers-requires : tie.Need-own-numbers-requires
 own-numbers-requires c κs = search needs
 
--- src/lib.rt:197:9
 returns : tie.Need-returns
-returns c = ?
+returns c =
+    let a = c .before .before .before .before .args in
+    fits-by (a .block) (lists (a .records .now) (a .room .now)) _ (no-own (a .block) _ _ (c .before .own-numbers .ensures) (c .if1 .taken))
 
--- src/lib.rt:199:5
 lent-fits-requires : tie.Need-lent-fits-requires
 lent-fits-requires c κs = search needs
 
--- src/lib.rt:192:1
 returns-2 : tie.Need-returns-2
-returns-2 c = ?
+returns-2 c =
+    let a = c .before .before .before .before .before .args in
+    fits-by (a .block) (lists (a .records .now) (a .room .now)) _ (own-goes (a .block) _ _ (c .before .before .own-numbers .ensures) (c .before .if1 .left) _ (c .lent-fits .ensures))
 
 pub fits-spec : {M : Type 1} → statement M
 fits-spec = tie.close (tie.spec own-numbers-requires returns lent-fits-requires returns-2)

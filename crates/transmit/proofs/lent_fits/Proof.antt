@@ -1,52 +1,68 @@
+-- `transmit::lent_fits` meets its contract. Assumes nothing.
+use Prim.Native.Nat.{ℕ}
+use native.Mathlib.Omega.{arith}
+use mathlib.Core.Path.{sym, ap, _∙_}
+use mathlib.Core.List.{[]}
+use lib.ListN.{length}
+use borrow.Author.Tests.{not-true, not-false}
+use Rattle.ring.specs.Lists.{lists}
+use Rattle.snd_ring.specs.Store.{marksFit}
+use Rattle.snd_ring.proofs.Splits.{marks-length, part-marks}
+use Rattle.block.specs.Sizes.{sendSlots}
+use Rattle.block.specs.WellFormed.{sendNumbers}
+use Rattle.block.proofs.Exact.{ring-sizes, send-numbers}
+use Rattle.block.proofs.Together.{goes, stops}
+use Rattle.transmit.specs.Fits.{sendLent}
 use borrow.Author.Needs.{needs}
 use Rattle.transmit.proofs.lent_fits.Statement.{statement}
 use Rattle.transmit.proofs.lent_fits.Tie as tie
-use Rattle.transmit.proofs.lent_fits.Reads as reads
-use Rattle.transmit.proofs.lent_fits.Lts as lts
-use Rattle.block.proofs.sender.Sender.send_numbers.Reads as send-numbers-reads
-use Rattle.block.proofs.sizes.send_sizes.Reads as send-sizes-reads
-use Rattle.snd_ring.proofs.marks_fit.Reads as marks-fit-reads
-use Rattle.snd_ring.proofs.slots_in.Reads as slots-in-reads
 
--- src/lib.rt:181:9
 send-sizes-requires : tie.Need-send-sizes-requires
 send-sizes-requires c κs = search needs
 
--- src/lib.rt:182:9
 returns : tie.Need-returns
-returns c = ?
+unfolding sendLent
+returns c =
+    stops _ (sym (c .before .send-sizes .ensures) ∙ not-true _ (c .if1 .taken))
 
--- src/lib.rt:184:9
 slots-in-requires : tie.Need-slots-in-requires
 slots-in-requires c κs = search needs
 
--- src/lib.rt:185:9
 send-numbers-requires : tie.Need-send-numbers-requires
 send-numbers-requires c κs = search needs
 
--- src/lib.rt:186:9
 returns-2 : tie.Need-returns-2
-returns-2 c = ?
+unfolding sendLent
+returns-2 c =
+    stops _ (sym (c .before .send-numbers .ensures ∙ ap (λ (n : ℕ). sendNumbers n (c .before .before .before .before .before .before .before .args .sender)) (c .before .before .slots-in .ensures)) ∙ not-true _ (c .if2 .taken))
+    ∙ goes _ (sym (c .before .before .before .before .send-sizes .ensures) ∙ not-false _ (c .before .before .before .if1 .left))
 
--- src/lib.rt:188:38
 sub-marks-fit : tie.Need-sub-marks-fit
 sub-marks-fit c = search needs
 
--- src/lib.rt:188:38
 part-marks-fit-start : tie.Need-part-marks-fit-start
 part-marks-fit-start c = search needs
 
--- src/lib.rt:188:38
 part-marks-fit-end : tie.Need-part-marks-fit-end
 part-marks-fit-end c = search needs
 
--- src/lib.rt:188:5
 marks-fit-requires : tie.Need-marks-fit-requires
-marks-fit-requires c κs = ?
+marks-fit-requires c κs =
+    let a = c .before .before .before .before .before .before .before .before .args in
+    let e = part-marks 8 (a .records .now) [] _ (c .before .before .before .slots-in .ensures) in
+    let l = ap length e ∙ marks-length 8 (lists (a .records .now) []) in
+    let z = ring-sizes 128 1024 (sendSlots (length (a .records .now))) 9 (length (a .records .now)) (length (a .room .now)) .holds (sym (c .before .before .before .before .before .send-sizes .ensures) ∙ not-false _ (c .before .before .before .before .if1 .left)) .few .high in
+    let n = send-numbers (sendSlots (length (a .records .now))) (a .sender) .holds (sym (c .before .before .send-numbers .ensures ∙ ap (λ (n : ℕ). sendNumbers n (c .before .before .before .before .before .before .before .before .args .sender)) (c .before .before .before .slots-in .ensures)) ∙ not-false _ (c .before .if2 .left)) in
+    (omega arith, (omega arith, omega arith))
 
--- src/lib.rt:178:1
 returns-3 : tie.Need-returns-3
-returns-3 c = ?
+unfolding sendLent
+returns-3 c =
+    let a = c .before .before .before .before .before .before .before .before .before .args in
+    c .marks-fit .ensures
+    ∙ ap (marksFit (a .sender .ring)) (part-marks 8 (a .records .now) (a .room .now) _ (c .before .before .before .before .slots-in .ensures))
+    ∙ goes _ (sym (c .before .before .before .send-numbers .ensures ∙ ap (λ (n : ℕ). sendNumbers n (c .before .before .before .before .before .before .before .before .before .args .sender)) (c .before .before .before .before .slots-in .ensures)) ∙ not-false _ (c .before .before .if2 .left))
+    ∙ goes _ (sym (c .before .before .before .before .before .before .send-sizes .ensures) ∙ not-false _ (c .before .before .before .before .before .if1 .left))
 
 pub lent-fits-spec : {M : Type 1} → statement M
 lent-fits-spec =

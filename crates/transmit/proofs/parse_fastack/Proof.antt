@@ -1,30 +1,32 @@
+-- `transmit::parse_fastack` meets its contract. Assumes nothing.
+use native.Mathlib.Omega.{arith}
+use Rattle.ring.specs.Lists.{lists}
+use Rattle.snd_ring.specs.Store.{storeOf}
+use Rattle.transmit.proofs.Steps.{asks, fastack-yes, fastack-no}
 use borrow.Author.Needs.{needs}
 use Rattle.transmit.proofs.parse_fastack.Statement.{statement}
 use Rattle.transmit.proofs.parse_fastack.Tie as tie
-use Rattle.transmit.proofs.parse_fastack.Reads as reads
-use Rattle.transmit.proofs.parse_fastack.Lts as lts
-use Rattle.sending.proofs.Latest.counts.Reads as counts-reads
-use Rattle.transmit.proofs.raise.Reads as raise-reads
 
--- src/lib.rt:170:8
 counts-requires : tie.Need-counts-requires
 counts-requires c κs = search needs
 
--- src/lib.rt:171:9
 raise-requires : tie.Need-raise-requires
-raise-requires c κs = ?
+raise-requires c κs =
+    let w = asks (c .before .before .before .before .args .sender) (c .before .before .before .before .args .records .now) (c .before .before .before .before .pre) in
+    (omega arith, (omega arith, omega arith))
 
--- src/lib.rt:166:1
 same-length : tie.Need-same-length
 same-length c = search needs
 
--- src/lib.rt:166:1
 returns : tie.Need-returns
-returns c = ?
+returns c =
+    let a = c .before .before .before .before .before .before .before .args in
+    λ room. fastack-yes (a .latest) (a .sender) (storeOf 8 (lists (a .records .now) room)) _ (c .before .before .before .before .before .counts .ensures) (c .before .before .before .before .if1 .taken) _ (c .before .before .raise .ensures room)
 
--- src/lib.rt:166:1
 returns-2 : tie.Need-returns-2
-returns-2 c = ?
+returns-2 c =
+    let a = c .before .before .before .args in
+    λ room. fastack-no (a .latest) (a .sender) (storeOf 8 (lists (a .records .now) room)) _ (c .before .counts .ensures) (c .if1 .left)
 
 pub parse-fastack-spec : {M : Type 1} → statement M
 parse-fastack-spec =

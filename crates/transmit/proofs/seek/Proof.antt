@@ -1,3 +1,4 @@
+-- `transmit::seek` meets its contract: the search from index i on ends as the whole of it does. Assumes nothing.
 use native.Mathlib.Omega.{arith}
 use Prim.Native.Nat.{_-_, _≤_}
 use mathlib.Core.Path.{_≡_, sym, ap, _∙_}
@@ -9,12 +10,6 @@ use Rattle.sending.specs.Rules.{stops}
 use Rattle.transmit.proofs.Numbers.{mark-is, number-is, Onward, onward-all, onward-gap, onward-live, ends-none, ends-here, ends-stop, ends-room}
 use Rattle.transmit.proofs.seek.Statement.{statement}
 use Rattle.transmit.proofs.seek.Tie as tie
-use Rattle.transmit.proofs.seek.Reads as reads
-use Rattle.transmit.proofs.seek.Lts as lts
-use Rattle.ring.proofs.place_of.Reads as place-of-reads
-use Rattle.sending.proofs.stops.Reads as stops-reads
-use Rattle.snd_ring.proofs.number_at.Reads as number-at-reads
-use Rattle.snd_ring.proofs.slots_in.Reads as slots-in-reads
 
 abbrev Inv-loop : tie.InvT-loop
 Inv-loop ring records sn slots reach i₀ i = (i ≤ ring .reach) × Onward sn ring (storeOf 8 (lists records [])) i
@@ -22,41 +17,32 @@ Inv-loop ring records sn slots reach i₀ i = (i ≤ ring .reach) × Onward sn r
 abbrev μ-loop : tie.MeasureT-loop
 μ-loop ring records sn slots reach i₀ i = ring .reach - i
 
--- src/lib.rt:88:9
 slots-in-requires : tie.Need-slots-in-requires Inv-loop μ-loop
 slots-in-requires c κs = omega arith
 
--- src/lib.rt:89:17
 cast-reach : tie.Need-cast-reach Inv-loop μ-loop
 cast-reach c = omega arith
 
--- src/lib.rt:91:5
 loop-holds : tie.Need-loop-holds Inv-loop μ-loop
 loop-holds c =
     let a = c .before .before .before .args in
     (omega arith, onward-all (a .sn) (a .ring) (storeOf 8 (lists (a .records .now) [])))
 
--- src/lib.rt:92:39
 cast-place-of : tie.Need-cast-place-of Inv-loop μ-loop
 cast-place-of c = omega arith
 
--- src/lib.rt:92:13
 place-of-requires : tie.Need-place-of-requires Inv-loop μ-loop
 place-of-requires c κs = omega arith
 
--- src/lib.rt:93:12
 mul-if1 : tie.Need-mul-if1 Inv-loop μ-loop
 mul-if1 c = omega arith
 
--- src/lib.rt:93:12
 shared-slice-read-if1 : tie.Need-shared-slice-read-if1 Inv-loop μ-loop
 shared-slice-read-if1 c = omega arith
 
--- src/lib.rt:94:17
 number-at-requires : tie.Need-number-at-requires Inv-loop μ-loop
 number-at-requires c κs = omega arith
 
--- src/lib.rt:96:17
 returns : tie.Need-returns Inv-loop μ-loop
 returns c =
     let a = c .before .before .before .before .before .before .before .before .before .before .before .args in
@@ -69,11 +55,9 @@ returns c =
     λ room. ends-room (a .sn) (a .ring) (a .records .now) [] room _
     (ends-here (a .sn) (a .ring) m (l .i) (l .inv .1) (omega arith) (λ z. c .before .before .if1 .taken (k ∙ z)) (sym u ∙ c .if2 .taken))
 
--- src/lib.rt:98:16
 stops-requires : tie.Need-stops-requires Inv-loop μ-loop
 stops-requires c κs = omega arith
 
--- src/lib.rt:99:17
 returns-2 : tie.Need-returns-2 Inv-loop μ-loop
 returns-2 c =
     let a = c .before .before .before .before .before .before .before .before .before .before .before .before .before .args in
@@ -87,15 +71,12 @@ returns-2 c =
     (ends-stop (a .sn) (a .ring) m (l .i) (l .inv .1) (omega arith) (λ z. c .before .before .before .before .if1 .taken (k ∙ z)) (λ z. c .before .before .if2 .left (u ∙ z))
     (sym (ap (stops (a .sn)) u) ∙ sym (c .before .stops .ensures) ∙ c .if3 .taken))
 
--- src/lib.rt:102:9
 add-i : tie.Need-add-i Inv-loop μ-loop
 add-i c = omega arith
 
--- src/lib.rt:91:5
 loop-less : tie.Need-loop-less Inv-loop μ-loop
 loop-less c = omega arith
 
--- src/lib.rt:91:5
 loop-again : tie.Need-loop-again Inv-loop μ-loop
 loop-again c =
     let a = c .before .before .before .before .before .before .before .before .before .args in
@@ -103,17 +84,17 @@ loop-again c =
     let l = c .before .before .before .before .before .loop in
     let e = c .before .before .before .before .before .before .before .slots-in .ensures in
     let p = c .before .before .place-of .ensures in
-    let k = mark-is (a .ring) (a .records .now) [] _ (l .i) _ e p in
-    (omega arith,
-    ⊎-elim
-    (λ w.
-    let u = w .1 .ensures ∙ number-is (a .ring) (a .records .now) [] _ (l .i) _ e p 2 in
-    onward-live (a .sn) (a .ring) m (l .i) (l .inv .1) (omega arith) (λ z. w .0 .taken (k ∙ z)) (λ z. w .2 .left (u ∙ z))
-    (sym (ap (stops (a .sn)) u) ∙ sym (w .3 .ensures) ∙ w .4 .left))
-    (λ w. onward-gap (a .sn) (a .ring) m (l .i) (l .inv .1) (omega arith) (sym k ∙ w .left))
-    (c .if1 .came))
+    let k = mark-is (a .ring) (a .records .now) [] _ (l .i) _ e p in (
+      omega arith,
+      ⊎-elim
+          (λ w.
+          let u = w .1 .ensures ∙ number-is (a .ring) (a .records .now) [] _ (l .i) _ e p 2 in
+          onward-live (a .sn) (a .ring) m (l .i) (l .inv .1) (omega arith) (λ z. w .0 .taken (k ∙ z)) (λ z. w .2 .left (u ∙ z))
+          (sym (ap (stops (a .sn)) u) ∙ sym (w .3 .ensures) ∙ w .4 .left))
+          (λ w. onward-gap (a .sn) (a .ring) m (l .i) (l .inv .1) (omega arith) (sym k ∙ w .left))
+          (c .if1 .came),
+    )
 
--- src/lib.rt:82:1
 returns-3 : tie.Need-returns-3 Inv-loop μ-loop
 returns-3 c =
     let a = c .before .before .before .before .before .args in
