@@ -1,6 +1,6 @@
 -- The test of the send memory is true exactly when its facts hold; these and a sound ring say the same; and una, acks and fastack keep what they ask.
 -- Assumes nothing.
-use Prim.Native.Nat.{ℕ, _+_, _-_, _*_, _/_, _≤_, _<_}
+use Prim.Native.Nat.{ℕ, _*_, _/_, _≤_, _<_}
 use native.Mathlib.Omega.{arith}
 use native.Mathlib.Decide.{ℕ-discrete}
 use mathlib.Core.Path.{_≡_, sym, ap, _∙_, subst}
@@ -10,11 +10,10 @@ use mathlib.Core.List.{List}
 use lib.ListN.{length}
 use borrow.Author.Tests.{not-true, not-false}
 use Rattle.ring.specs.Lists.{Lists, lists}
-use Rattle.ring.specs.Counting.{count}
 use Rattle.ring.proofs.Places.{place-zero}
 use Rattle.ring.proofs.Counting.{count-le, count-under}
 use Rattle.snd_ring.specs.Marks.{markAt}
-use Rattle.snd_ring.specs.Store.{Store, storeOf, marksFit, Marked, Sound}
+use Rattle.snd_ring.specs.Store.{Store, storeOf, Sound}
 use Rattle.snd_ring.proofs.Splits.{marks-length, rows-length, store-room}
 use Rattle.snd_ring.proofs.Tests.{fit-marked, marked-fit}
 use Rattle.block.specs.declared.sender.Sender.{Sender}

@@ -5,10 +5,9 @@ use native.Mathlib.Omega.{arith}
 use native.Mathlib.Decide.{ℕ-discrete}
 use native.Mathlib.Numerals.{add-one}
 use mathlib.Core.Path.{_≡_, refl, sym, ap, _∙_}
-use mathlib.Core.Bool.{Bool, true, false, _&&_}
+use mathlib.Core.Bool.{Bool, true, false}
 use mathlib.Core.List.{List, [], _∷_, _++_, map, map-map}
 use lib.ListN.{length, getD}
-use lib.Dec.{ltb, eqb}
 use borrow.Author.Tests.{lt-ltb, le-ltb, eq-eqb, ne-eqb}
 use Rattle.serial.specs.Wrap.{after}
 use Rattle.ring.specs.Lists.{lists}
@@ -23,7 +22,7 @@ use Rattle.snd_ring.specs.declared.SndRing.{SndRing}
 use Rattle.snd_ring.specs.Marks.{liveOf, markAt}
 use Rattle.snd_ring.specs.Store.{Store, store, storeOf, Stored, cell, flightOf, Sound}
 use Rattle.snd_ring.specs.Store as memory
-use Rattle.snd_ring.proofs.Marks.{by-live, live-no, live-yes}
+use Rattle.snd_ring.proofs.Marks.{by-live}
 use Rattle.snd_ring.proofs.Splits.{place-by, mark-read}
 use Rattle.snd_ring.proofs.Views.{cell-gap, cell-live}
 use Rattle.block.specs.declared.sender.Sender.{Sender}
@@ -109,7 +108,7 @@ pub rows-room : (records a b : List ℕ) → storeOf 8 (lists records a) .rows �
 unfolding storeOf
 rows-room records a b = refl
 
-module _ (r : SndRing) (a b : List ℕ) (slots i q : ℕ) (e : slots ≡ length a / 9) (p : (q ≡ place slots (r .start) i) × (q < slots)) where
+module _ (r : SndRing) (a b : List ℕ) (i : ℕ) {slots q : ℕ} (e : slots ≡ length a / 9) (p : (q ≡ place slots (r .start) i) × (q < slots)) where
   abbrev m : Store
   m = storeOf 8 (lists a b)
 

@@ -1,16 +1,16 @@
 -- The law between the memory functions and the rules: what is seen in the memory afterwards is the rule's outcome of what was seen before, the ring
 -- stays sound, and the memory as large as it was. Assumes nothing.
-use Prim.Native.Nat.{ℕ, zero, suc, _+_, _-_, _*_, _≤_, _<_, zero-le, suc-le-suc}
+use Prim.Native.Nat.{ℕ, zero, suc, _+_, _*_, _≤_, _<_, zero-le, suc-le-suc}
 use native.Mathlib.Omega.{arith}
 use mathlib.Core.Path.{_≡_, refl, sym, ap, _∙_, subst}
 use mathlib.Core.Bool.{Bool, true, false, cond, _&&_}
-use mathlib.Core.List.{List, [], _∷_, _++_, map, map-map}
-use lib.ListN.{length, drop, getD, set, length-set, length-map}
+use mathlib.Core.List.{List, [], _∷_, map, map-map}
+use lib.ListN.{length, drop, getD, length-set, length-map}
 use borrow.Author.Tests.{eq-eqb, ne-eqb}
 use lib.Seq.{getD-set-same, getD-set-other}
 use Rattle.serial.specs.Branch.{pick}
 use Rattle.serial.specs.Wrap.{after}
-use Rattle.ring.specs.Places.{place, along}
+use Rattle.ring.specs.Places.{place}
 use Rattle.ring.specs.Sequences.{removed}
 use Rattle.ring.proofs.Places.{by-less, place-in, place-apart}
 use Rattle.ring.proofs.Counting.{count-under}
@@ -18,9 +18,9 @@ use Rattle.ring.proofs.Rows.{part-length, partSlot-number}
 use Rattle.ring.proofs.Sequences.{map-append, map-drop, map-removed}
 use Rattle.snd_ring.specs.declared.SndRing.{SndRing}
 use Rattle.snd_ring.specs.Marks.{markAt}
-use Rattle.snd_ring.specs.Store.{Store, Stored, segment, cell, flightOf, waitingOf, Sized, Sound}
+use Rattle.snd_ring.specs.Store.{Store, Stored, segment, cell, flightOf, waitingOf, Sound}
 use Rattle.snd_ring.specs.Store as memory
-use Rattle.snd_ring.specs.Steps.{withMarks, renumbered, dropped, gapped, takenOut}
+use Rattle.snd_ring.specs.Steps.{renumbered, dropped, gapped}
 use Rattle.snd_ring.proofs.Marks.{by-live}
 use Rattle.snd_ring.proofs.Views.{segmentAt, cell-gap, cell-live, seen-none, seen-kept, in-rows, flight-length}
 use Rattle.snd_ring.proofs.Fronts.{loosened, drop-flight, drop-waiting, drop-sound, take-flight, take-waiting, take-sound}
@@ -28,7 +28,7 @@ use Rattle.snd_ring.proofs.Renumbers.{numbered, number-own, number-other, renum
 use Rattle.block.specs.declared.sender.Sender.{Sender}
 use Rattle.block.specs.Parts.{withSndRing}
 use Rattle.sending.specs.declared.Latest.{Latest}
-use Rattle.sending.specs.Rules.{Segment, Sending, numbers, withFlying, acknowledgedBy, shrunk, parseUna, inRange, seek, meets, found, parseAck, fastackOf, raised, counts, parseFastack}
+use Rattle.sending.specs.Rules.{Segment, Sending, withFlying, acknowledgedBy, shrunk, parseUna, inRange, seek, meets, found, parseAck, fastackOf, raised, counts, parseFastack}
 use Rattle.transmit.specs.Memory.{sn, ts, fastack, segmentOf, seen, flyingNumbers, numberIn, Side, side, shrunkAt, unaAt, sought, removedAt, shrunkSide, ackAt, raisedOne, raisedFrom, fastackAt}
 use Rattle.transmit.proofs.Numbers.{seen-first, flying-numbers, Met, sought-is}
 
@@ -45,6 +45,12 @@ pub record AsLarge (m after : Store) : Type 0 where
   pub marks : length (after .marks) ≡ length (m .marks)
   pub rows : length (after .rows) ≡ length (m .rows)
   pub room : length (after .room) ≡ length (m .room)
+
+-- the sender's other numbers stay
+pub record Alike (s after : Sender) : Type 0 where
+  pub next : after .«snd_nxt» ≡ s .«snd_nxt»
+  pub xmit : after .xmit ≡ s .xmit
+  pub dead : after .dead ≡ s .dead
 
 -- ---- what is seen of the numbers that the decisions go by
 
@@ -100,6 +106,10 @@ module _ (s : Sender) (m : Store) (o : Sound 8 (s .ring) m) (una : ℕ) where
   pub una-sound : Sound 8 (unaAt una s m .ring) m
   unfolding unaAt shrunkAt
   una-sound = drop-sound 8 (s .ring) m (loosened 8 (s .ring) m o) n acknowledged-flying
+
+pub una-alike : (s : Sender) (m : Store) (una : ℕ) → Alike s (unaAt una s m)
+unfolding unaAt shrunkAt
+una-alike s m una = record { next = refl; xmit = refl; dead = refl }
 
 -- ---- an ack
 
@@ -174,6 +184,13 @@ module _ (s : Sender) (m : Store) (o : Sound 8 (s .ring) m) (x : ℕ) where
   unfolding ackAt shrunkSide
   ack-slots =
       pick-by (λ (y : Side). AsLarge m (y .store)) isFound (removedAt i s m) (side s m) (λ e. removed-slots) (λ e. record { marks = refl; rows = refl; room = refl })
+
+  pub ack-alike : Alike s (ackAt x s m .sender)
+  unfolding ackAt shrunkSide shrunkAt removedAt
+  ack-alike =
+      pick-by (λ (y : Side). Alike s (shrunkAt (y .sender) (y .store))) isFound (removedAt i s m) (side s m)
+      (λ e. record { next = refl; xmit = refl; dead = refl })
+      (λ e. record { next = refl; xmit = refl; dead = refl })
 
 -- ---- fastack: one index
 

@@ -89,9 +89,9 @@ fn seek(ring: SndRing, records: &[u32], sn: u32) -> Sought
     let reach = ring.reach as usize;
     let mut i = 0;
     while i < reach {
-        let q = ring::place_of(slots, ring.start as usize, i);
-        if records[q] != 0 {
-            let n = snd_ring::number_at(records, slots, q, SN);
+        let slot = ring::place_of(slots, ring.start as usize, i);
+        if records[slot] != 0 {
+            let n = snd_ring::number_at(records, slots, slot, SN);
             if n == sn {
                 return Sought { at: i, met: true };
             }
@@ -121,7 +121,7 @@ pub fn parse_ack(sender: Sender, records: &mut [u32], sn: u32) -> Sender
     shrink(sender.with_ring(less), records)
 }
 
-// Writes the fastack of the segment at place q after the acks of a datagram; a gap is passed over.
+// Writes the fastack of the segment at index i after the acks of a datagram; a gap is passed over.
 fn raise_one(ring: SndRing, records: &mut [u32], i: usize, max_ack: u32, latest_ts: u32)
     requires { ⌜ length (now records) / 9 ≤ 65535 ⌝ }
     requires { ⌜ ring .start < length (now records) / 9 ⌝ }

@@ -58,8 +58,8 @@ returns c =
     let l = c .before .before .before .before .before .before .before .before .loop in
     let e = c .before .before .before .before .before .before .before .before .before .before .slots-in .ensures in
     let p = c .before .before .before .before .before .place-of .ensures in
-    let u = c .before .before .number-at .ensures ∙ number-is (a .ring) (a .records .now) [] _ (l .i) _ e p 2 in
-    let s = counts-stop (a .una) (a .ring) m (l .i) (omega arith) (λ z. c .before .before .before .if1 .taken (mark-is (a .ring) (a .records .now) [] _ (l .i) _ e p ∙ z)) (sym (ap (after (a .una)) u) ∙ sym (c .before .after .ensures) ∙ not-true _ (c .if2 .taken)) in
+    let u = c .before .before .number-at .ensures ∙ number-is (a .ring) (a .records .now) [] (l .i) e p 2 in
+    let s = counts-stop (a .una) (a .ring) m (l .i) (omega arith) (λ z. c .before .before .before .if1 .taken (mark-is (a .ring) (a .records .now) [] (l .i) e p ∙ z)) (sym (ap (after (a .una)) u) ∙ sym (c .before .after .ensures) ∙ not-true _ (c .if2 .taken)) in
     let i = l .inv .2 in
     let n : l .n ≡ acknowledgedBy (a .una) (flyingNumbers (a .ring) m) = omega arith in
     λ room. n ∙ ap (acknowledgedBy (a .una)) (numbers-room (a .ring) (a .records .now) [] room)
@@ -80,11 +80,11 @@ loop-again c =
     let l = c .before .before .before .before .before .loop in
     let e = c .before .before .before .before .before .before .before .slots-in .ensures in
     let p = c .before .before .place-of .ensures in
-    let k = mark-is (a .ring) (a .records .now) [] _ (l .i) _ e p in
+    let k = mark-is (a .ring) (a .records .now) [] (l .i) e p in
     let i = l .inv .2 in
     ⊎-elim
     (λ w.
-    let u = w .1 .ensures ∙ number-is (a .ring) (a .records .now) [] _ (l .i) _ e p 2 in
+    let u = w .1 .ensures ∙ number-is (a .ring) (a .records .now) [] (l .i) e p 2 in
     let s = counts-on (a .una) (a .ring) m (l .i) (omega arith) (λ z. w .0 .taken (k ∙ z)) (sym (ap (after (a .una)) u) ∙ sym (w .2 .ensures) ∙ not-false _ (w .3 .left)) in
     (omega arith, omega arith, omega arith))
     (λ w.

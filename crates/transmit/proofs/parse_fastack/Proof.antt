@@ -12,7 +12,7 @@ counts-requires c κs = search needs
 
 raise-requires : tie.Need-raise-requires
 raise-requires c κs =
-    let w = asks (c .before .before .before .before .args .sender) (c .before .before .before .before .args .records .now) (c .before .before .before .before .pre) in
+    let w = asks (c .before .before .before .before .pre) in
     (omega arith, (omega arith, omega arith))
 
 same-length : tie.Need-same-length
@@ -21,12 +21,12 @@ same-length c = search needs
 returns : tie.Need-returns
 returns c =
     let a = c .before .before .before .before .before .before .before .args in
-    λ room. fastack-yes (a .latest) (a .sender) (storeOf 8 (lists (a .records .now) room)) _ (c .before .before .before .before .before .counts .ensures) (c .before .before .before .before .if1 .taken) _ (c .before .before .raise .ensures room)
+    λ room. fastack-yes (a .latest) (a .sender) (storeOf 8 (lists (a .records .now) room)) (c .before .before .before .before .before .counts .ensures) (c .before .before .before .before .if1 .taken) (c .before .before .raise .ensures room)
 
 returns-2 : tie.Need-returns-2
 returns-2 c =
     let a = c .before .before .before .args in
-    λ room. fastack-no (a .latest) (a .sender) (storeOf 8 (lists (a .records .now) room)) _ (c .before .counts .ensures) (c .if1 .left)
+    λ room. fastack-no (a .latest) (a .sender) (storeOf 8 (lists (a .records .now) room)) (c .before .counts .ensures) (c .if1 .left)
 
 pub parse-fastack-spec : {M : Type 1} → statement M
 parse-fastack-spec =

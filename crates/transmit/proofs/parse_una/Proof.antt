@@ -12,7 +12,7 @@ use Rattle.transmit.proofs.parse_una.Tie as tie
 
 acknowledged-count-requires : tie.Need-acknowledged-count-requires
 acknowledged-count-requires c κs =
-    let w = asks (c .before .before .args .sender) (c .before .before .args .records .now) (c .before .before .pre) in
+    let w = asks (c .before .before .pre) in
     (omega arith, (omega arith, omega arith))
 
 slots-in-requires : tie.Need-slots-in-requires
@@ -29,21 +29,21 @@ part-drop-front-end c = search needs
 
 drop-front-requires : tie.Need-drop-front-requires
 drop-front-requires c κs =
-    let w = asks (c .before .before .before .before .before .args .sender) (c .before .before .before .before .before .args .records .now) (c .before .before .before .before .before .pre) in
-    let e = part-marks 8 (c .before .before .before .before .before .args .records .now) [] _ (c .before .slots-in .ensures) in
-    let n = ap length e ∙ marks-length 8 (lists (c .before .before .before .before .before .args .records .now) []) in
-    (omega arith, (omega arith, (omega arith, few (c .before .before .before .before .before .args .sender) (c .before .before .before .before .before .args .records .now) (c .before .before .before .before .before .pre) (c .before .before .before .before .before .args .una) _ _ (c .before .slots-in .ensures) (c .before .before .acknowledged-count .ensures))))
+    let a = c .before .before .before .before .before .args in
+    let w = asks (c .before .before .before .before .before .pre) in
+    let n = ap length (part-marks 8 (a .records .now) [] _ (c .before .slots-in .ensures)) ∙ marks-length 8 (lists (a .records .now) []) in
+    (omega arith, (omega arith, (omega arith, few (c .before .before .before .before .before .pre) (c .before .before .before .before .before .args .una) (c .before .slots-in .ensures) (c .before .before .acknowledged-count .ensures))))
 
 with-ring-requires : tie.Need-with-ring-requires
 with-ring-requires c κs = search needs
 
 shrink-requires : tie.Need-shrink-requires
 shrink-requires c κs =
-    una-left (c .before .before .before .before .before .before .before .args .sender) (c .before .before .before .before .before .before .before .args .records .now) (c .before .before .before .before .before .before .before .pre) (c .before .before .before .before .before .before .before .args .una) _ _ (c .before .before .before .slots-in .ensures) (c .before .before .before .before .acknowledged-count .ensures) _ (c .before .drop-front .ensures) _ (c .with-ring .ensures)
+    una-left (c .before .before .before .before .before .before .before .pre) (c .before .before .before .before .before .before .before .args .una) (c .before .before .before .slots-in .ensures) (c .before .before .before .before .acknowledged-count .ensures) (c .before .drop-front .ensures) (c .with-ring .ensures)
 
 returns : tie.Need-returns
 returns c =
-    una-done (c .before .before .before .before .before .before .before .before .args .sender) (c .before .before .before .before .before .before .before .before .args .records .now) (c .before .before .before .before .before .before .before .before .pre) (c .before .before .before .before .before .before .before .before .args .una) _ _ (c .before .before .before .before .slots-in .ensures) (c .before .before .before .before .before .acknowledged-count .ensures) _ (c .before .before .drop-front .ensures) _ (c .before .with-ring .ensures) _ (c .shrink .ensures)
+    una-done (c .before .before .before .before .before .before .before .before .pre) (c .before .before .before .before .before .before .before .before .args .una) (c .before .before .before .before .slots-in .ensures) (c .before .before .before .before .before .acknowledged-count .ensures) (c .before .before .drop-front .ensures) (c .before .with-ring .ensures) (c .shrink .ensures)
 
 pub parse-una-spec : {M : Type 1} → statement M
 parse-una-spec =

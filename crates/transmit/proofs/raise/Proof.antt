@@ -45,7 +45,7 @@ loop-again c =
     let l = c .before .before .before .before .before .loop in (
       omega arith,
       omega arith,
-      λ room. walk-more (a .max-ack) (a .latest-ts) (a .ring) (storeOf 8 (lists (l .records) room)) (l .i) (omega arith) _ (c .before .before .raise-one .ensures room) ∙ l .inv .2 room,
+      λ room. walk-more (a .max-ack) (a .latest-ts) (a .ring) (storeOf 8 (lists (l .records) room)) (l .i) (omega arith) (c .before .before .raise-one .ensures room) ∙ l .inv .2 room,
     )
 
 same-length : tie.Need-same-length Inv-loop μ-loop

@@ -22,7 +22,7 @@ slice-read-if1 c = search needs
 returns : tie.Need-returns
 returns c =
     let a = c .before .before .before .before .before .before .args in
-    λ room. raised-none (a .max-ack) (a .latest-ts) (a .ring) (a .records .now) room _ (a .i) _ (c .before .before .before .before .slots-in .ensures) (c .before .before .place-of .ensures) (c .if1 .taken)
+    λ room. raised-none (a .max-ack) (a .latest-ts) (a .ring) (a .records .now) room (a .i) (c .before .before .before .before .slots-in .ensures) (c .before .before .place-of .ensures) (c .if1 .taken)
 
 number-at-requires : tie.Need-number-at-requires
 number-at-requires c κs = search needs
@@ -45,8 +45,8 @@ same-length c = search needs
 returns-2 : tie.Need-returns-2
 returns-2 c =
     let a = c .before .before .before .before .before .before .before .before .before .before .before .before .before .before .before .before .before .args in
-    λ room. raised-some (a .max-ack) (a .latest-ts) (a .ring) (a .records .now) room _ (a .i) _ (c .before .before .before .before .before .before .before .before .before .before .before .before .before .before .before .slots-in .ensures) (c .before .before .before .before .before .before .before .before .before .before .before .before .before .place-of .ensures) (c .before .before .before .before .before .before .before .before .before .before .before .if1 .left)
-    _ _ _ _ (c .before .before .before .before .before .before .before .before .before .number-at .ensures) (c .before .before .before .before .before .before .before .number-at2 .ensures) (c .before .before .before .before .before .number-at3 .ensures) (c .before .before .before .fastack-of .ensures) _ (c .before .before .put-number .ensures room)
+    λ room. raised-some (a .max-ack) (a .latest-ts) (a .ring) (a .records .now) room (a .i) (c .before .before .before .before .before .before .before .before .before .before .before .before .before .before .before .slots-in .ensures) (c .before .before .before .before .before .before .before .before .before .before .before .before .before .place-of .ensures) (c .before .before .before .before .before .before .before .before .before .before .before .if1 .left)
+    (c .before .before .before .before .before .before .before .before .before .number-at .ensures) (c .before .before .before .before .before .before .before .number-at2 .ensures) (c .before .before .before .before .before .number-at3 .ensures) (c .before .before .before .fastack-of .ensures) (c .before .before .put-number .ensures room)
 
 pub raise-one-spec : {M : Type 1} → statement M
 raise-one-spec =

@@ -1,7 +1,7 @@
 -- `transmit::seek` meets its contract: the search from index i on ends as the whole of it does. Assumes nothing.
 use native.Mathlib.Omega.{arith}
 use Prim.Native.Nat.{_-_, _≤_}
-use mathlib.Core.Path.{_≡_, sym, ap, _∙_}
+use mathlib.Core.Path.{sym, ap, _∙_}
 use mathlib.Core.List.{[]}
 use mathlib.Core.Logic.{⊎-elim}
 use Rattle.ring.specs.Lists.{lists}
@@ -50,8 +50,8 @@ returns c =
     let l = c .before .before .before .before .before .before .before .loop in
     let e = c .before .before .before .before .before .before .before .before .before .slots-in .ensures in
     let p = c .before .before .before .before .place-of .ensures in
-    let k = mark-is (a .ring) (a .records .now) [] _ (l .i) _ e p in
-    let u = c .before .number-at .ensures ∙ number-is (a .ring) (a .records .now) [] _ (l .i) _ e p 2 in
+    let k = mark-is (a .ring) (a .records .now) [] (l .i) e p in
+    let u = c .before .number-at .ensures ∙ number-is (a .ring) (a .records .now) [] (l .i) e p 2 in
     λ room. ends-room (a .sn) (a .ring) (a .records .now) [] room _
     (ends-here (a .sn) (a .ring) m (l .i) (l .inv .1) (omega arith) (λ z. c .before .before .if1 .taken (k ∙ z)) (sym u ∙ c .if2 .taken))
 
@@ -65,8 +65,8 @@ returns-2 c =
     let l = c .before .before .before .before .before .before .before .before .before .loop in
     let e = c .before .before .before .before .before .before .before .before .before .before .before .slots-in .ensures in
     let p = c .before .before .before .before .before .before .place-of .ensures in
-    let k = mark-is (a .ring) (a .records .now) [] _ (l .i) _ e p in
-    let u = c .before .before .before .number-at .ensures ∙ number-is (a .ring) (a .records .now) [] _ (l .i) _ e p 2 in
+    let k = mark-is (a .ring) (a .records .now) [] (l .i) e p in
+    let u = c .before .before .before .number-at .ensures ∙ number-is (a .ring) (a .records .now) [] (l .i) e p 2 in
     λ room. ends-room (a .sn) (a .ring) (a .records .now) [] room _
     (ends-stop (a .sn) (a .ring) m (l .i) (l .inv .1) (omega arith) (λ z. c .before .before .before .before .if1 .taken (k ∙ z)) (λ z. c .before .before .if2 .left (u ∙ z))
     (sym (ap (stops (a .sn)) u) ∙ sym (c .before .stops .ensures) ∙ c .if3 .taken))
@@ -84,11 +84,11 @@ loop-again c =
     let l = c .before .before .before .before .before .loop in
     let e = c .before .before .before .before .before .before .before .slots-in .ensures in
     let p = c .before .before .place-of .ensures in
-    let k = mark-is (a .ring) (a .records .now) [] _ (l .i) _ e p in (
+    let k = mark-is (a .ring) (a .records .now) [] (l .i) e p in (
       omega arith,
       ⊎-elim
           (λ w.
-          let u = w .1 .ensures ∙ number-is (a .ring) (a .records .now) [] _ (l .i) _ e p 2 in
+          let u = w .1 .ensures ∙ number-is (a .ring) (a .records .now) [] (l .i) e p 2 in
           onward-live (a .sn) (a .ring) m (l .i) (l .inv .1) (omega arith) (λ z. w .0 .taken (k ∙ z)) (λ z. w .2 .left (u ∙ z))
           (sym (ap (stops (a .sn)) u) ∙ sym (w .3 .ensures) ∙ w .4 .left))
           (λ w. onward-gap (a .sn) (a .ring) m (l .i) (l .inv .1) (omega arith) (sym k ∙ w .left))

@@ -11,8 +11,7 @@ with-una-requires c κs = search needs
 
 returns : tie.Need-returns
 returns c =
-    let a = c .before .before .before .before .before .args in
-    λ room. c .with-una .ensures ∙ shrunk-none (a .sender) (a .records .now) (c .before .before .before .before .before .pre) (c .before .if1 .taken) room
+    λ room. c .with-una .ensures ∙ shrunk-none (c .before .before .before .before .before .pre) (c .before .if1 .taken) room
 
 slots-in-requires : tie.Need-slots-in-requires
 slots-in-requires c κs = search needs
@@ -22,7 +21,7 @@ cast-number-at c = search needs
 
 number-at-requires : tie.Need-number-at-requires
 number-at-requires c κs =
-    let w = asks (c .before .before .before .before .before .before .args .sender) (c .before .before .before .before .before .before .args .records .now) (c .before .before .before .before .before .before .pre) in
+    let w = asks (c .before .before .before .before .before .before .pre) in
     (omega arith, (omega arith, omega arith))
 
 with-una-requires-2 : tie.Need-with-una-requires-2
@@ -30,8 +29,7 @@ with-una-requires-2 c κs = search needs
 
 returns-2 : tie.Need-returns-2
 returns-2 c =
-    let a = c .before .before .before .before .before .before .before .before .args in
-    λ room. c .with-una2 .ensures ∙ shrunk-front (a .sender) (a .records .now) (c .before .before .before .before .before .before .before .before .pre) (c .before .before .before .before .if1 .left) _ (c .before .number-at .ensures) room
+    λ room. c .with-una2 .ensures ∙ shrunk-front (c .before .before .before .before .before .before .before .before .pre) (c .before .before .before .before .if1 .left) (c .before .number-at .ensures) room
 
 pub shrink-spec : {M : Type 1} → statement M
 shrink-spec =
