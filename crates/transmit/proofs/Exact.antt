@@ -45,8 +45,8 @@ exactly k l = exactly-as (λ p. record { own = p .0; lent = p .1 }) (λ f. (f .o
 
 -- ---- its facts and a sound ring
 
-pub sound-of : (k : Kcp) (l : Lists) → SendFits k l → Sound 8 (k .sender .ring) (storeOf 8 l)
-sound-of k l f =
+pub sound-of : {k : Kcp} {l : Lists} → SendFits k l → Sound 8 (k .sender .ring) (storeOf 8 l)
+sound-of {l} f =
     let n = marks-length 8 l in
     let z = f .lent .sizes in
     let h = z .few .high in
@@ -77,17 +77,17 @@ fits-of k l own sizes o =
     }
 
 -- `fits`: the block's own numbers decide, or the test of the memory; and what it says where it is true
-module _ (k : Kcp) (l : Lists) (t : Bool) (e : t ≡ ownNumbers k) where
+module _ (k : Kcp) (l : Lists) {t : Bool} (e : t ≡ ownNumbers k) where
   pub no-own : not t ≡ true → false ≡ sendFits k l
   unfolding sendFits
   no-own h = stops _ (sym e ∙ not-true t h)
 
-  pub own-goes : not t ≡ false → (r : Bool) → r ≡ sendLent (k .sender) l → r ≡ sendFits k l
+  pub own-goes : not t ≡ false → {r : Bool} → r ≡ sendLent (k .sender) l → r ≡ sendFits k l
   unfolding sendFits
-  own-goes h r d = d ∙ goes _ (sym e ∙ not-false t h)
+  own-goes h d = d ∙ goes _ (sym e ∙ not-false t h)
 
-pub fits-by : (k : Kcp) (l : Lists) (r : Bool) → r ≡ sendFits k l → (r ≡ sendFits k l) × (r ≡ true → Sound 8 (k .sender .ring) (storeOf 8 l))
-fits-by k l r e = (e, λ t. sound-of k l (exactly k l .holds (sym e ∙ t)))
+pub fits-by : (k : Kcp) (l : Lists) {r : Bool} → r ≡ sendFits k l → (r ≡ sendFits k l) × (r ≡ true → Sound 8 (k .sender .ring) (storeOf 8 l))
+fits-by k l e = (e, λ t. sound-of (exactly k l .holds (sym e ∙ t)))
 
 -- the block's own numbers of a sound ring fit
 pub sender-fits-of : (s : Sender) (m : Store) → Sound 8 (s .ring) m → length (m .marks) ≤ 1024 → SenderFits s
@@ -116,10 +116,10 @@ sender-fits-of s m o few =
 pub lies-of : (s : Sender) (records room : List ℕ) → Sound 8 (s .ring) (storeOf 8 (lists records room)) → Lies s records
 lies-of s records room o = record { room = room; sound = o }
 
-pub lies-sound : (s : Sender) (records : List ℕ) → Lies s records → (room : List ℕ) → length room ≡ length records / 9 * 1476
+pub lies-sound : {s : Sender} {records : List ℕ} → Lies s records → (room : List ℕ) → length room ≡ length records / 9 * 1476
     → Sound 8 (s .ring) (storeOf 8 (lists records room))
 unfolding storeOf
-lies-sound s records l room e =
+lies-sound {records} l room e =
     let o = l .sound in
     let n = marks-length 8 (lists records room) in
     record {
@@ -132,17 +132,17 @@ lies-sound s records l room e =
     }
 
 -- r and b are what the call left
-module _ (s : Sender) (a : List ℕ) (l : Lies s a) where
-  pub una-lies : (una : ℕ) (r : Sender) → ((room : List ℕ) → r ≡ unaAt una s (storeOf 8 (lists a room))) → Lies r a
-  una-lies una r e = record {
+module _ {s : Sender} {a : List ℕ} (l : Lies s a) where
+  pub una-lies : (una : ℕ) {r : Sender} → ((room : List ℕ) → r ≡ unaAt una s (storeOf 8 (lists a room))) → Lies r a
+  una-lies una e = record {
     room = l .room;
-    sound = subst (λ (x : Sender). Sound 8 (x .ring) (storeOf 8 (lists a (l .room)))) (sym (e (l .room))) (una-sound s (storeOf 8 (lists a (l .room))) (l .sound) una);
+    sound = subst (λ (x : Sender). Sound 8 (x .ring) (storeOf 8 (lists a (l .room)))) (sym (e (l .room))) (una-sound una s (storeOf 8 (lists a (l .room))) (l .sound));
   }
 
-  pub ack-lies : (x : ℕ) (r : Sender) (b : List ℕ) → ((room : List ℕ) → side r (storeOf 8 (lists b room)) ≡ ackAt x s (storeOf 8 (lists a room))) → Lies r b
-  ack-lies x r b e = record {
+  pub ack-lies : (x : ℕ) {r : Sender} (b : List ℕ) → ((room : List ℕ) → side r (storeOf 8 (lists b room)) ≡ ackAt x s (storeOf 8 (lists a room))) → Lies r b
+  ack-lies x b e = record {
     room = l .room;
-    sound = subst (λ (y : Side). Sound 8 (y .sender .ring) (y .store)) (sym (e (l .room))) (ack-sound s (storeOf 8 (lists a (l .room))) (l .sound) x);
+    sound = subst (λ (y : Side). Sound 8 (y .sender .ring) (y .store)) (sym (e (l .room))) (ack-sound x s (storeOf 8 (lists a (l .room))) (l .sound));
   }
 
   pub fastack-lies : (latest : Latest) (b : List ℕ) → ((room : List ℕ) → storeOf 8 (lists b room) ≡ fastackAt latest s (storeOf 8 (lists a room))) → Lies s b

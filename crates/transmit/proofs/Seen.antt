@@ -32,8 +32,7 @@ use Rattle.sending.specs.Rules.{Segment, Sending, withFlying, acknowledgedBy, s
 use Rattle.transmit.specs.Memory.{sn, ts, fastack, segmentOf, seen, flyingNumbers, numberIn, Side, side, shrunkAt, unaAt, sought, removedAt, shrunkSide, ackAt, raisedOne, raisedFrom, fastackAt}
 use Rattle.transmit.proofs.Numbers.{seen-first, flying-numbers, Met, sought-is}
 
--- ---- what holds of either side holds of the choice
-
+-- what holds of either side holds of the choice
 pick-by : {A : Type 0} (P : A → Type 0) (t : Bool) (a b : A) → (t ≡ true → P a) → (t ≡ false → P b) → P (pick t a b)
 unfolding pick
 pick-by P true a b x y = x refl
@@ -47,7 +46,7 @@ pub record AsLarge (m after : Store) : Type 0 where
   pub room : length (after .room) ≡ length (m .room)
 
 -- the sender's other numbers stay
-pub record Alike (s after : Sender) : Type 0 where
+pub record Kept (s after : Sender) : Type 0 where
   pub next : after .«snd_nxt» ≡ s .«snd_nxt»
   pub xmit : after .xmit ≡ s .xmit
   pub dead : after .dead ≡ s .dead
@@ -75,7 +74,7 @@ acknowledged-within una (n ∷ l) = go (after una n) (acknowledged-within una l)
     go true h = suc-le-suc h
     go false h = zero-le
 
-module _ (s : Sender) (m : Store) (o : Sound 8 (s .ring) m) (una : ℕ) where
+module _ (una : ℕ) (s : Sender) (m : Store) (o : Sound 8 (s .ring) m) where
   abbrev n : ℕ
   n = acknowledgedBy una (flyingNumbers (s .ring) m)
 
@@ -107,9 +106,9 @@ module _ (s : Sender) (m : Store) (o : Sound 8 (s .ring) m) (una : ℕ) where
   unfolding unaAt shrunkAt
   una-sound = drop-sound 8 (s .ring) m (loosened 8 (s .ring) m o) n acknowledged-flying
 
-pub una-alike : (s : Sender) (m : Store) (una : ℕ) → Alike s (unaAt una s m)
+pub una-kept : (una : ℕ) (s : Sender) (m : Store) → Kept s (unaAt una s m)
 unfolding unaAt shrunkAt
-una-alike s m una = record { next = refl; xmit = refl; dead = refl }
+una-kept una s m = record { next = refl; xmit = refl; dead = refl }
 
 -- ---- an ack
 
@@ -121,76 +120,74 @@ found-meets : (una next x : ℕ) (l : List ℕ) → found una next x l ≡ true 
 unfolding found
 found-meets una next x l h = second (inRange una next x) (meets x l) h
 
-module _ (s : Sender) (m : Store) (o : Sound 8 (s .ring) m) (x : ℕ) where
+module _ (x : ℕ) (s : Sender) (m : Store) where
   abbrev isFound : Bool
   isFound = found (s .«snd_una») (s .«snd_nxt») x (flyingNumbers (s .ring) m)
 
   abbrev i : ℕ
   i = sought x (s .ring) m 0 (s .ring .reach)
 
-  abbrev chosen : Side
-  chosen = pick isFound (removedAt i s m) (side s m)
-
-  module _ (e : isFound ≡ true) where
-    met : Met x (s .ring) m i
-    met = sought-is x (s .ring) m (found-meets (s .«snd_una») (s .«snd_nxt») x (flyingNumbers (s .ring) m) e)
-
-    seen-removed : seen (removedAt i s m .sender) (removedAt i s m .store) ≡ withFlying (seen s m) (removed (seen s m .flying) (seek x (flyingNumbers (s .ring) m)))
-    unfolding seen removedAt
-    seen-removed =
-        rw (
-          take-flight 8 (s .ring) m o i (met .flies) (met .live),
-          take-waiting 8 (s .ring) m o i (met .flies) (met .live),
-          met .rank,
-          map-removed segmentOf (flightOf 8 (s .ring) m) (seek x (flyingNumbers (s .ring) m)),
-        )
-
-    pub removed-sound : Sound 8 (removedAt i s m .sender .ring) (removedAt i s m .store)
-    unfolding removedAt
-    removed-sound = take-sound 8 (s .ring) m o i (met .flies) (met .live)
-
-    -- it flies
-    pub found-flying : (i < s .ring .reach) × (0 < s .ring .flying)
-    found-flying =
-        let a = met .flies in
-        let b = o .marked .counted in (
-          a,
-          by-less 0 (s .ring .flying) (λ h. h)
-              (λ h. let c = count-under 1 (m .marks) (s .ring .start) 0 (s .ring .reach) (omega arith) i (omega arith) (omega arith) in absurd (met .live (omega arith))),
-        )
-
-  removed-slots : AsLarge m (removedAt i s m .store)
-  unfolding removedAt gapped
-  removed-slots = record { marks = length-set (m .marks) _ 0; rows = refl; room = refl }
-
-  abbrev rule : List ℕ → Sending
-  rule l = cond (found (s .«snd_una») (s .«snd_nxt») x l) (withFlying (seen s m) (removed (seen s m .flying) (seek x l))) (seen s m)
-
-  seen-chosen : seen (chosen .sender) (chosen .store) ≡ rule (flyingNumbers (s .ring) m)
-  seen-chosen =
-      pick-by (λ (y : Side). seen (y .sender) (y .store) ≡ rule (flyingNumbers (s .ring) m)) isFound (removedAt i s m) (side s m)
-      (λ e. rw e (seen-removed e))
-      (λ e. rw e)
-
-  pub seen-ack : seen (ackAt x s m .sender) (ackAt x s m .store) ≡ parseAck x (seen s m)
-  unfolding ackAt shrunkSide parseAck
-  seen-ack = seen-shrunk (chosen .sender) (chosen .store) ∙ ap shrunk (seen-chosen ∙ rw (seen-same s m .0, seen-same s m .1, flying-numbers s m))
-
-  pub ack-sound : Sound 8 (ackAt x s m .sender .ring) (ackAt x s m .store)
-  unfolding ackAt shrunkSide shrunkAt
-  ack-sound = pick-by (λ (y : Side). Sound 8 (y .sender .ring) (y .store)) isFound (removedAt i s m) (side s m) removed-sound (λ e. o)
+  -- what holds of either side holds of the choice
+  chosen-by : (P : Side → Type 0) → (isFound ≡ true → P (removedAt i s m)) → (isFound ≡ false → P (side s m)) → P (pick isFound (removedAt i s m) (side s m))
+  chosen-by P f g = pick-by P isFound (removedAt i s m) (side s m) f g
 
   pub ack-slots : AsLarge m (ackAt x s m .store)
-  unfolding ackAt shrunkSide
+  unfolding ackAt shrunkSide removedAt gapped
   ack-slots =
-      pick-by (λ (y : Side). AsLarge m (y .store)) isFound (removedAt i s m) (side s m) (λ e. removed-slots) (λ e. record { marks = refl; rows = refl; room = refl })
+      chosen-by (λ (y : Side). AsLarge m (y .store))
+      (λ e. record { marks = length-set (m .marks) _ 0; rows = refl; room = refl })
+      (λ e. record { marks = refl; rows = refl; room = refl })
 
-  pub ack-alike : Alike s (ackAt x s m .sender)
+  pub ack-kept : Kept s (ackAt x s m .sender)
   unfolding ackAt shrunkSide shrunkAt removedAt
-  ack-alike =
-      pick-by (λ (y : Side). Alike s (shrunkAt (y .sender) (y .store))) isFound (removedAt i s m) (side s m)
+  ack-kept =
+      chosen-by (λ (y : Side). Kept s (shrunkAt (y .sender) (y .store)))
       (λ e. record { next = refl; xmit = refl; dead = refl })
       (λ e. record { next = refl; xmit = refl; dead = refl })
+
+  module _ (o : Sound 8 (s .ring) m) where
+    module _ (e : isFound ≡ true) where
+      met : Met x (s .ring) m i
+      met = sought-is x (s .ring) m (found-meets (s .«snd_una») (s .«snd_nxt») x (flyingNumbers (s .ring) m) e)
+
+      seen-removed : seen (removedAt i s m .sender) (removedAt i s m .store) ≡ withFlying (seen s m) (removed (seen s m .flying) (seek x (flyingNumbers (s .ring) m)))
+      unfolding seen removedAt
+      seen-removed =
+          rw (
+            take-flight 8 (s .ring) m o i (met .flies) (met .live),
+            take-waiting 8 (s .ring) m o i (met .flies) (met .live),
+            met .rank,
+            map-removed segmentOf (flightOf 8 (s .ring) m) (seek x (flyingNumbers (s .ring) m)),
+          )
+
+      pub removed-sound : Sound 8 (removedAt i s m .sender .ring) (removedAt i s m .store)
+      unfolding removedAt
+      removed-sound = take-sound 8 (s .ring) m o i (met .flies) (met .live)
+
+      -- it flies
+      pub found-flying : (i < s .ring .reach) × (0 < s .ring .flying)
+      found-flying =
+          let a = met .flies in
+          let b = o .marked .counted in (
+            a,
+            by-less 0 (s .ring .flying) (λ h. h)
+                (λ h. let c = count-under 1 (m .marks) (s .ring .start) 0 (s .ring .reach) (omega arith) i (omega arith) (omega arith) in absurd (met .live (omega arith))),
+          )
+
+    abbrev rule : List ℕ → Sending
+    rule l = cond (found (s .«snd_una») (s .«snd_nxt») x l) (withFlying (seen s m) (removed (seen s m .flying) (seek x l))) (seen s m)
+
+    pub seen-ack : seen (ackAt x s m .sender) (ackAt x s m .store) ≡ parseAck x (seen s m)
+    unfolding ackAt shrunkSide parseAck
+    seen-ack =
+        seen-shrunk _ _
+        ∙ ap shrunk
+        (chosen-by (λ (y : Side). seen (y .sender) (y .store) ≡ rule (flyingNumbers (s .ring) m)) (λ e. rw e (seen-removed e)) (λ e. rw e)
+        ∙ rw (seen-same s m .0, seen-same s m .1, flying-numbers s m))
+
+    pub ack-sound : Sound 8 (ackAt x s m .sender .ring) (ackAt x s m .store)
+    unfolding ackAt shrunkSide shrunkAt
+    ack-sound = chosen-by (λ (y : Side). Sound 8 (y .sender .ring) (y .store)) removed-sound (λ e. o)
 
 -- ---- fastack: one index
 

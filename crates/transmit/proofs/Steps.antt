@@ -52,7 +52,7 @@ module _ {s : Sender} {a : List ℕ} (l : Lies s a) where
 
   module _ (una : ℕ) {slots n : ℕ} (e : slots ≡ length a / 9) (f : (room : List ℕ) → n ≡ acknowledgedBy una (flyingNumbers (s .ring) (storeOf 8 (lists a room)))) where
     pub few : n ≤ s .ring .flying
-    few = let h = acknowledged-flying s m (l .sound) una in let g = f (l .room) in omega arith
+    few = let h = acknowledged-flying una s m (l .sound) in let g = f (l .room) in omega arith
 
     -- the ring t after the drop, and the sender v with it
     module _ {t : SndRing} (d : t ≡ dropped (s .ring) (take (slots - 0) (drop 0 a)) n) {v : Sender} (w : v ≡ withSndRing s t) where
@@ -62,7 +62,7 @@ module _ {s : Sender} {a : List ℕ} (l : Lies s a) where
 
       pub una-left : Lies v a
       unfolding shrunkAt
-      una-left = record { room = l .room; sound = subst (λ (x : Sender). Sound 8 (x .ring) m) (sym (una-by (l .room))) (una-sound s m (l .sound) una) }
+      una-left = record { room = l .room; sound = subst (λ (x : Sender). Sound 8 (x .ring) m) (sym (una-by (l .room))) (una-sound una s m (l .sound)) }
 
       pub una-done : {r : Sender} → ((room : List ℕ) → r ≡ shrunkAt v (storeOf 8 (lists a room))) → (room : List ℕ) → r ≡ unaAt una s (storeOf 8 (lists a room))
       una-done g room = g room ∙ una-by room
@@ -96,7 +96,7 @@ module _ {s : Sender} {a : List ℕ} (l : Lies s a) where
       pub ack-at : (o .at < s .ring .reach) × (0 < s .ring .flying)
       ack-at =
           let i = g (l .room) .at-is in
-          let f = found-flying s m (l .sound) x (is-found (l .room)) in
+          let f = found-flying x s m (l .sound) (is-found (l .room)) in
           (omega arith, omega arith)
 
       -- the ring u and the records b after it, and the sender v with the ring
@@ -110,7 +110,7 @@ module _ {s : Sender} {a : List ℕ} (l : Lies s a) where
         pub ack-left : Lies v b
         ack-left = record {
           room = l .room;
-          sound = subst (λ (y : Side). Sound 8 (y .sender .ring) (y .store)) (sym (removed-by (l .room))) (removed-sound s m (l .sound) x (is-found (l .room)));
+          sound = subst (λ (y : Side). Sound 8 (y .sender .ring) (y .store)) (sym (removed-by (l .room))) (removed-sound x s m (l .sound) (is-found (l .room)));
         }
 
         pub ack-done : {r : Sender} → ((room : List ℕ) → r ≡ shrunkAt v (storeOf 8 (lists b room))) → (room : List ℕ) → side r (storeOf 8 (lists b room)) ≡ ackAt x s (storeOf 8 (lists a room))
