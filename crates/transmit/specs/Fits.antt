@@ -1,6 +1,6 @@
 -- "15 | BadPool | block or lent memory not well formed, or a size outside the limits", as far as the send memory goes: what every call that is
 -- handed it tests; and the same facts as the calls below the test use them. Assumes nothing.
-use Prim.Native.Nat.{ℕ, _≤_}
+use Prim.Native.Nat.{ℕ}
 use mathlib.Core.Bool.{Bool, _&&_}
 use mathlib.Core.List.{List}
 use lib.ListN.{length}

@@ -1,10 +1,10 @@
 -- What una, acks and fastack do to the block's numbers and to the lent memory, every number and byte: the memory functions of `parse_una`,
 -- `parse_ack` and `parse_fastack`. The decisions are those of the rules (sending/specs/Rules), asked of the numbers in the ring.
 -- A row has eight numbers: conv, frg, sn, ts, resendts, rto, fastack, xmit. Assumes nothing.
-use Prim.Native.Nat.{ℕ, zero, suc, _+_, _-_}
+use Prim.Native.Nat.{ℕ, zero, suc}
 use mathlib.Core.Path.{_≡_}
 use mathlib.Core.Bool.{cond, _||_}
-use mathlib.Core.List.{List, [], _∷_, map}
+use mathlib.Core.List.{List, map}
 use lib.ListN.{length, getD}
 use lib.Dec.{eqb}
 use Rattle.serial.specs.Branch.{pick}

@@ -31,12 +31,11 @@ fn acknowledged_count(ring: SndRing, records: &[u32], una: u32) -> u32
     ensures { λ r. ⌜ ((room : List ℕ) → r ≡ acknowledgedBy una (flyingNumbers ring (storeOf 8 (lists (now (records .entry)) room)))) ⌝ }
 {
     let slots = snd_ring::slots_in(records.len());
-    let start = ring.start as usize;
     let reach = ring.reach as usize;
     let mut n: u32 = 0;
     let mut i = 0;
     while i < reach {
-        let q = ring::place_of(slots, start, i);
+        let q = ring::place_of(slots, ring.start as usize, i);
         if records[q] != 0 {
             if !serial::after(una, snd_ring::number_at(records, slots, q, SN)) {
                 return n;
@@ -87,13 +86,12 @@ fn seek(ring: SndRing, records: &[u32], sn: u32) -> Sought
     ensures { λ r. ⌜ ((room : List ℕ) → Ends sn ring (storeOf 8 (lists (now (records .entry)) room)) r) ⌝ }
 {
     let slots = snd_ring::slots_in(records.len());
-    let start = ring.start as usize;
     let reach = ring.reach as usize;
     let mut i = 0;
     while i < reach {
-        let q = ring::place_of(slots, start, i);
-        if records[q] != 0 {
-            let n = snd_ring::number_at(records, slots, q, SN);
+        let slot = ring::place_of(slots, ring.start as usize, i);
+        if records[slot] != 0 {
+            let n = snd_ring::number_at(records, slots, slot, SN);
             if n == sn {
                 return Sought { at: i, met: true };
             }
@@ -123,7 +121,7 @@ pub fn parse_ack(sender: Sender, records: &mut [u32], sn: u32) -> Sender
     shrink(sender.with_ring(less), records)
 }
 
-// Writes the fastack of the segment at place q after the acks of a datagram; a gap is passed over.
+// Writes the fastack of the segment at index i after the acks of a datagram; a gap is passed over.
 fn raise_one(ring: SndRing, records: &mut [u32], i: usize, max_ack: u32, latest_ts: u32)
     requires { ⌜ length (now records) / 9 ≤ 65535 ⌝ }
     requires { ⌜ ring .start < length (now records) / 9 ⌝ }
