@@ -28,10 +28,17 @@ module _ (mss : ℕ) (stream : Bool) (bytes : List ℕ) (s : Sender) (m : Store)
   unfolding answerAt
   answered big full all = judged mss stream bytes s m (λ h v. big h (rw v)) (λ h k v. full h k (rw v)) (λ h k v. all h k (rw v))
 
+  -- where it is not refused
+  pub accepted : {n : ℕ} → answerAt mss stream bytes s m ≡ Are n → (n ≡ length bytes) × ((new mss stream bytes s m < 128) × (new mss stream bytes s m ≤ free s m))
+  accepted e =
+      answered (λ h a. absurd (let z : _≡_ {A = ℕ} 0 1 = cc in omega arith)) (λ h k a. absurd (let z : _≡_ {A = ℕ} 0 1 = cc in omega arith)) (λ h k a. (cc, (h, k)))
+
   pub twelve-exactly : Sound 8 (s .ring) m → mss ≤ 1476 → Exactly mss stream bytes s m
   unfolding answerAt
   twelve-exactly o small = record {
-    only = λ e. answered (λ h a. absurd (let z : _≡_ {A = ℕ} 0 1 = cc in omega arith)) (λ h k a. (omega arith, k)) (λ h k a. absurd (let z : _≡_ {A = ℕ} 0 1 = cc in omega arith));
+    only =
+        λ e.
+        answered (λ h a. absurd (let z : _≡_ {A = ℕ} 0 1 = cc in omega arith)) (λ h k a. (omega arith, k)) (λ h k a. absurd (let z : _≡_ {A = ℕ} 0 1 = cc in omega arith));
     always = λ h k. rw (judged-full mss stream bytes s m (omega arith) k);
-    places = λ e. answered (λ h a. absurd (let z : _≡_ {A = ℕ} 0 1 = cc in omega arith)) (λ h k a. absurd (let z : _≡_ {A = ℕ} 0 1 = cc in omega arith)) (λ h k a. made-room mss stream bytes s m o small k);
+    places = λ e. made-room mss stream bytes s m o small (accepted e .1 .1);
   }
