@@ -137,7 +137,7 @@ module _ (mss : ℕ) (stream : Bool) (bytes : List ℕ) (s : Sender) (m : Store)
       go true e = rw (seen-fills ∙ e, longer-seen e, seen-joins, seen-waiting s m o, last-of s m o)
       go false e = rw (seen-fills ∙ e)
 
-  module _ (room : new mss stream bytes s m ≤ free mss stream bytes s m) where
+  module _ (room : new mss stream bytes s m ≤ free s m) where
     abbrev after : Sender
     after = withSndRing s (sentAt mss stream bytes s m .ring)
 
@@ -170,10 +170,10 @@ module _ (mss : ℕ) (stream : Bool) (bytes : List ℕ) (s : Sender) (m : Store)
   unfolding send leftBy
   seen-send =
       let n = new mss stream bytes s m in
-      let f = free mss stream bytes s m in
+      let f = free s m in
       rw seen-new
       (send-by mss stream bytes s m
-      (λ (y : Side). seen (y .sender) (y .store) ≡ leftBy mss stream bytes (seen s m) (verdict (new mss stream bytes s m) (free mss stream bytes s m)))
+      (λ (y : Side). seen (y .sender) (y .store) ≡ leftBy mss stream bytes (seen s m) (verdict (new mss stream bytes s m) (free s m)))
       (λ h. rw (verdict-big n f h) seen-filled)
       (λ h k. rw (verdict-full n f h k))
       (λ h k. rw (verdict-fits n f h k) (seen-sent k)))

@@ -27,11 +27,11 @@ use Rattle.send.proofs.Spaces.{Keeps, keeps-same, keeps-on, spaced-keep
 use Rattle.send.proofs.Queues.{Behind, queued-behind}
 use Rattle.send.proofs.Steps.{fill-needs}
 
-module _ (mss : ℕ) (stream : Bool) (bytes : List ℕ) (s : Sender) (m : Store) where
-  -- the free slots, gaps among them
-  abbrev pub free : ℕ
-  free = length (m .marks) - (s .ring .flying + s .ring .unsent)
+-- the free slots, gaps among them
+abbrev pub free : Sender → Store → ℕ
+free s m = length (m .marks) - (s .ring .flying + s .ring .unsent)
 
+module _ (mss : ℕ) (stream : Bool) (bytes : List ℕ) (s : Sender) (m : Store) where
   -- the bytes that join the last queued segment, and the memory with them
   abbrev pub joined : List ℕ
   joined = take (joining mss stream bytes s m) bytes
@@ -49,30 +49,30 @@ module _ (mss : ℕ) (stream : Bool) (bytes : List ℕ) (s : Sender) (m : Store)
   -- 8 leaves the fill, 12 leaves all, and else all is queued
   pub judged-big : 128 ≤ new mss stream bytes s m → verdictAt mss stream bytes s m ≡ tooBig
   unfolding verdictAt
-  judged-big h = verdict-big (new mss stream bytes s m) free h
+  judged-big h = verdict-big (new mss stream bytes s m) (free s m) h
 
   module _ (few : new mss stream bytes s m < 128) where
-    pub judged-full : free < new mss stream bytes s m → verdictAt mss stream bytes s m ≡ poolFull
+    pub judged-full : free s m < new mss stream bytes s m → verdictAt mss stream bytes s m ≡ poolFull
     unfolding verdictAt
-    judged-full h = verdict-full (new mss stream bytes s m) free few h
+    judged-full h = verdict-full (new mss stream bytes s m) (free s m) few h
 
-    pub judged-fits : new mss stream bytes s m ≤ free → verdictAt mss stream bytes s m ≡ fits
+    pub judged-fits : new mss stream bytes s m ≤ free s m → verdictAt mss stream bytes s m ≡ fits
     unfolding verdictAt
-    judged-fits h = verdict-fits (new mss stream bytes s m) free few h
+    judged-fits h = verdict-fits (new mss stream bytes s m) (free s m) few h
 
   -- by cases
   pub judged : {A : Type 0} → (128 ≤ new mss stream bytes s m → verdictAt mss stream bytes s m ≡ tooBig → A)
-      → (new mss stream bytes s m < 128 → free < new mss stream bytes s m → verdictAt mss stream bytes s m ≡ poolFull → A)
-      → (new mss stream bytes s m < 128 → new mss stream bytes s m ≤ free → verdictAt mss stream bytes s m ≡ fits → A) → A
+      → (new mss stream bytes s m < 128 → free s m < new mss stream bytes s m → verdictAt mss stream bytes s m ≡ poolFull → A)
+      → (new mss stream bytes s m < 128 → new mss stream bytes s m ≤ free s m → verdictAt mss stream bytes s m ≡ fits → A) → A
   judged big full all =
       by-less (new mss stream bytes s m) 128
-      (λ h. by-less free (new mss stream bytes s m) (λ k. full h k (judged-full h k)) (λ k. all h k (judged-fits h k)))
+      (λ h. by-less (free s m) (new mss stream bytes s m) (λ k. full h k (judged-full h k)) (λ k. all h k (judged-fits h k)))
       (λ h. big h (judged-big h))
 
   -- what holds of each of the three holds of a send
   pub send-by : (P : Side → Type 0) → (128 ≤ new mss stream bytes s m → P (side s (filledAt mss stream bytes s m)))
-      → (new mss stream bytes s m < 128 → free < new mss stream bytes s m → P (side s m))
-      → (new mss stream bytes s m < 128 → new mss stream bytes s m ≤ free → P (side (withSndRing s (sentAt mss stream bytes s m .ring)) (sentAt mss stream bytes s m .store)))
+      → (new mss stream bytes s m < 128 → free s m < new mss stream bytes s m → P (side s m))
+      → (new mss stream bytes s m < 128 → new mss stream bytes s m ≤ free s m → P (side (withSndRing s (sentAt mss stream bytes s m .ring)) (sentAt mss stream bytes s m .store)))
       → P (sendAt mss stream bytes s m)
   unfolding sendAt leftAt
   send-by P big full all = judged (λ h v. rw v (big h)) (λ h k v. rw v (full h k)) (λ h k v. rw v (all h k))
@@ -110,7 +110,7 @@ module _ (mss : ℕ) (stream : Bool) (bytes : List ℕ) (s : Sender) (m : Store)
   pub made-keeps : Keeps (s .ring) m (spaced mss stream bytes s m)
   made-keeps = keeps-on filled-keeps (spaced-keeps (new mss stream bytes s m) (s .ring) (filledAt mss stream bytes s m) (filled-keeps .sound))
 
-  module _ (room : new mss stream bytes s m ≤ free mss stream bytes s m) where
+  module _ (room : new mss stream bytes s m ≤ free s m) where
     pub made-room : spaced mss stream bytes s m .ring .reach + spaced mss stream bytes s m .ring .unsent + new mss stream bytes s m ≤ length (m .marks)
     made-room =
         let e = filled-keeps .slots in
@@ -127,47 +127,61 @@ module _ (mss : ℕ) (stream : Bool) (bytes : List ℕ) (s : Sender) (m : Store)
     pub sent-keeps : Keeps (s .ring) m (sentAt mss stream bytes s m)
     sent-keeps = keeps-on made-keeps (sent-behind .keeps)
 
-  -- ---- `send`: the last queued segment has `last` bytes, and k new ones are needed
+-- ---- `send` on the lists a and b: the last queued segment has `last` bytes, and k new ones are needed
 
-  module _ (last : ℕ) (l : last ≡ lastLength (s .ring) m) (k : ℕ) (e : k ≡ needed mss stream (s .ring .unsent) last (length bytes)) where
-    pub new-is : k ≡ new mss stream bytes s m
-    new-is = e ∙ ap (λ (i : ℕ). needed mss stream (s .ring .unsent) i (length bytes)) l
+module _ (mss : ℕ) (stream : Bool) (bytes : List ℕ) (s : Sender) (a b : List ℕ) (o : Sound 8 (s .ring) (storeOf 8 (lists a b))) (small : mss ≤ 1476)
+    (last : ℕ) (l : (room : List ℕ) → last ≡ lastLength (s .ring) (storeOf 8 (lists a room))) (k : ℕ) (e : k ≡ needed mss stream (s .ring .unsent) last (length bytes)) where
+  abbrev m : Store
+  m = storeOf 8 (lists a b)
 
-    pub sent-big : 128 ≤ k → (o′ : Sent) (m′ : Store) → o′ ≡ record { sender = s; answer = Refused UserBufTooBig } → m′ ≡ filledAt mss stream bytes s m → SentAs mss stream bytes s m o′ m′
+  new-is : k ≡ new mss stream bytes s m
+  new-is = e ∙ ap (λ (i : ℕ). needed mss stream (s .ring .unsent) i (length bytes)) (l b)
+
+  pub sent-big : 128 ≤ k → (x : Sent) (m′ : Store) → x ≡ record { sender = s; answer = Refused UserBufTooBig } → m′ ≡ filledAt mss stream bytes s m → SentAs mss stream bytes s m x m′
+  unfolding sendAt answerAt leftAt
+  sent-big h x m′ d w =
+      let v = judged-big mss stream bytes s m (rw new-is at h) in
+      record { sends = rw (v, d, w); answers = rw (v, d) }
+
+  -- of n slots u are in use
+  module _ (few : k < 128) (n u : ℕ) (slots : n ≡ length a / 9) (used : u ≡ s .ring .flying + s .ring .unsent) where
+    free-is : n - u ≡ free s m
+    free-is = let h = marks-length 8 (lists a b) in omega arith
+
+    pub sent-full : n - u < k → (x : Sent) → x ≡ record { sender = s; answer = Refused SendPoolFull } → SentAs mss stream bytes s m x m
     unfolding sendAt answerAt leftAt
-    sent-big h o′ m′ d w =
-        let v = judged-big mss stream bytes s m (rw new-is at h) in
-        record { sends = rw (v, d, w); answers = rw (v, d) }
+    sent-full h x d =
+        let v = judged-full mss stream bytes s m (rw new-is at few) (rw (new-is, free-is) at h) in
+        record { sends = rw (v, d); answers = rw (v, d) }
 
-    module _ (few : k < 128) where
-      pub sent-full : free mss stream bytes s m < k → (o′ : Sent) → o′ ≡ record { sender = s; answer = Refused SendPoolFull } → SentAs mss stream bytes s m o′ m
-      unfolding sendAt answerAt leftAt
-      sent-full h o′ d =
-          let v = judged-full mss stream bytes s m (rw new-is at few) (rw new-is at h) in
-          record { sends = rw (v, d); answers = rw (v, d) }
+    -- all is queued, from byte `from` on: f is the filled memory, and the ring r in the lists a′ and b′ has room
+    module _ (room : k ≤ n - u) (from : ℕ) (j : from ≡ joins mss stream (s .ring .unsent) last (length bytes)) (f : Store) (w : f ≡ filledAt mss stream bytes s m) where
+      enough : new mss stream bytes s m ≤ free s m
+      enough = rw (new-is, free-is) at room
 
-      -- all is queued, from byte `from` on: f is the filled memory, and the ring r in the lists a and b has room
-      module _ (room : k ≤ free mss stream bytes s m) (from : ℕ) (j : from ≡ joins mss stream (s .ring .unsent) last (length bytes)) (f : Store) (w : f ≡ filledAt mss stream bytes s m) where
-        pub room-needs : Sound 8 (s .ring) f × (k ≤ 65535)
-        room-needs = (rw w (filled-keeps .sound), omega arith)
+      pub room-needs : Sound 8 (s .ring) f × (k ≤ 65535)
+      room-needs = (rw w (filled-keeps mss stream bytes s m o small .sound), omega arith)
 
-        module _ (r : SndRing) (a b : List ℕ) (y : laid r (storeOf 8 (lists a b)) ≡ spacedAt k (laid (s .ring) f)) where
-          made-is : laid r (storeOf 8 (lists a b)) ≡ spaced mss stream bytes s m
-          made-is = y ∙ rw (w, new-is)
+      module _ (r : SndRing) (a′ b′ : List ℕ) (y : laid r (storeOf 8 (lists a′ b′)) ≡ spacedAt k (laid (s .ring) f)) where
+        made-is : laid r (storeOf 8 (lists a′ b′)) ≡ spaced mss stream bytes s m
+        made-is = y ∙ rw (w, new-is)
 
-          pub queue-needs : Shaped 8 r (storeOf 8 (lists a b)) × ((r .reach + r .unsent + k ≤ length a / 9) × ((mss ≤ 1476) × (from ≤ length bytes)))
-          queue-needs =
-              let g : Keeps (s .ring) m (laid r (storeOf 8 (lists a b))) = rw made-is made-keeps in
-              let h : r .reach + r .unsent + new mss stream bytes s m ≤ length (m .marks) = subst (λ (x : Laid). x .ring .reach + x .ring .unsent + new mss stream bytes s m ≤ length (m .marks)) (sym made-is) (made-room (rw new-is at room)) in
-              let n = marks-length 8 (lists a b) in
-              let d = g .slots in
-              let i = new-is in
-              let q = joins-within mss stream (s .ring .unsent) last (length bytes) in
-              (g .sound .shaped, (omega arith, (small, omega arith)))
+        pub queue-needs : Shaped 8 r (storeOf 8 (lists a′ b′)) × ((r .reach + r .unsent + k ≤ length a′ / 9) × ((mss ≤ 1476) × (from ≤ length bytes)))
+        queue-needs =
+            let g : Keeps (s .ring) m (laid r (storeOf 8 (lists a′ b′))) = rw made-is (made-keeps mss stream bytes s m o small) in
+            let h =
+            subst (λ (x : Laid). x .ring .reach + x .ring .unsent + new mss stream bytes s m ≤ length (m .marks)) (sym made-is)
+            (made-room mss stream bytes s m o small enough)
+            in
+            let n = marks-length 8 (lists a′ b′) in
+            let d = g .slots in
+            let i = new-is in
+            let q = joins-within mss stream (s .ring .unsent) last (length bytes) in
+            (g .sound .shaped, (omega arith, (small, omega arith)))
 
-          pub sent-all : (z : Laid) → z ≡ queuedAt (cut mss stream k (drop from bytes)) (laid r (storeOf 8 (lists a b))) → (s′ : Sender) → s′ ≡ withSndRing s (z .ring)
-              → SentAs mss stream bytes s m (record { sender = s′; answer = Are (length bytes) }) (z .store)
-          unfolding sendAt answerAt leftAt sentAt
-          sent-all z g s′ d =
-              let v = judged-fits mss stream bytes s m (rw new-is at few) (rw new-is at room) in
-              record { sends = rw (v, d, g, made-is, j, l, new-is); answers = rw v }
+        pub sent-all : (z : Laid) → z ≡ queuedAt (cut mss stream k (drop from bytes)) (laid r (storeOf 8 (lists a′ b′))) → (s′ : Sender) → s′ ≡ withSndRing s (z .ring)
+            → SentAs mss stream bytes s m (record { sender = s′; answer = Are (length bytes) }) (z .store)
+        unfolding sendAt answerAt leftAt sentAt
+        sent-all z g s′ d =
+            let v = judged-fits mss stream bytes s m (rw new-is at few) enough in
+            record { sends = rw (v, d, g, made-is, j, l b, new-is); answers = rw v }

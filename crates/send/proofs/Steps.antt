@@ -15,6 +15,7 @@ use Rattle.snd_ring.specs.declared.SndRing.{SndRing}
 use Rattle.snd_ring.specs.Marks.{markAt}
 use Rattle.snd_ring.specs.Store.{Store, storeOf, segment, Shaped, Sound}
 use Rattle.snd_ring.specs.Steps.{last, filled, appendedRing, appended}
+use Rattle.snd_ring.proofs.Splits.{marks-length}
 use Rattle.snd_ring.proofs.Slides.{here}
 use Rattle.snd_ring.proofs.Views.{written-sized, written-slots}
 use Rattle.block.specs.declared.sender.Sender.{Sender}
@@ -107,29 +108,35 @@ module _ (count mss : ℕ) (stream : Bool) (bytes : List ℕ) (from : ℕ) (x : 
   turn-first h o r = record { inside = h; shaped = o; slots = refl; room = r; rest = refl }
 
   -- with one less than `left` left to do, frg and the end found
-  module _ (left at : ℕ) (y : Laid) (t : Turn count mss stream bytes from x left at y) (some : 0 < left) (small : mss ≤ 1476)
+  module _ (left at : ℕ) (r : SndRing) (a b : List ℕ) (t : Turn count mss stream bytes from x left at (laid r (storeOf 8 (lists a b)))) (some : 0 < left) (small : mss ≤ 1476)
       (k end : ℕ) (f : k ≡ pick stream 0 (left - 1)) (e : end ≡ min (at + mss) (length bytes)) where
-    pub slot-left : y .ring .reach + y .ring .unsent < length (y .store .marks)
-    slot-left = let r = t .room in omega arith
+    abbrev m : Store
+    m = storeOf 8 (lists a b)
 
-    pub piece-fit : length (take (end - at) (drop at bytes)) ≤ 1476
+    slot-left : r .reach + r .unsent < length (m .marks)
+    slot-left = let n = t .room in omega arith
+
+    piece-fit : length (take (end - at) (drop at bytes)) ≤ 1476
     piece-fit = rw (length-take, length-drop) (omega arith)
 
+    pub turn-needs : Shaped 8 r m × ((r .reach + r .unsent < length a / 9) × ((length (rowOf k) ≡ 8) × (length (take (end - at) (drop at bytes)) ≤ 1476)))
+    turn-needs = (t .shaped, (rw (marks-length 8 (lists a b)) at slot-left, (refl, piece-fit)))
+
     again : (l : ℕ) → left ≡ suc l
-        → queuedAt (cut mss stream left (drop at bytes)) y
-        ≡ queuedAt (cut mss stream l (drop end bytes)) (laid (appendedRing (y .ring)) (appended 8 (y .ring) (y .store) (segment (rowOf (pick stream 0 l)) (take (end - at) (drop at bytes)))))
+        → queuedAt (cut mss stream left (drop at bytes)) (laid r m)
+        ≡ queuedAt (cut mss stream l (drop end bytes)) (laid (appendedRing r) (appended 8 r m (segment (rowOf (pick stream 0 l)) (take (end - at) (drop at bytes)))))
     unfolding queuedAt cut
     again l g = rw (g, piece mss at end bytes (t .inside) e, behind-piece mss at end bytes (t .inside) e)
 
-    pub turn-next : (z : Laid) → z .ring ≡ appendedRing (y .ring) → z .store ≡ appended 8 (y .ring) (y .store) (segment (rowOf k) (take (end - at) (drop at bytes)))
+    pub turn-next : (z : Laid) → z .ring ≡ appendedRing r → z .store ≡ appended 8 r m (segment (rowOf k) (take (end - at) (drop at bytes)))
         → Turn count mss stream bytes from x (left - 1) end z
     turn-next z g w =
-        let n = append-slots (y .ring) (y .store) (t .shaped) slot-left (rowOf k) (take (end - at) (drop at bytes)) refl piece-fit in
-        let r = t .room in
+        let n = append-slots r m (t .shaped) slot-left (rowOf k) (take (end - at) (drop at bytes)) refl piece-fit in
+        let h = t .room in
         rw (g, w)
         (record {
           inside = omega arith;
-          shaped = append-shaped (y .ring) (y .store) (t .shaped) slot-left (rowOf k) (take (end - at) (drop at bytes)) refl piece-fit;
+          shaped = append-shaped r m (t .shaped) slot-left (rowOf k) (take (end - at) (drop at bytes)) refl piece-fit;
           slots = n ∙ t .slots;
           room = omega arith;
           rest = rw f (sym (again (left - 1) (omega arith))) ∙ t .rest;

@@ -18,7 +18,7 @@ use Rattle.transmit.specs.Memory.{seen}
 use Rattle.send.specs.Memory.{sendAt, answerAt}
 use Rattle.send.specs.Whole.{bytesOf}
 use Rattle.send.proofs.Numbers.{fills-facts, joins-none, pieces-some, verdict-fits}
-use Rattle.send.proofs.Twelve.{answered}
+use Rattle.send.proofs.Twelve.{accepted}
 use Rattle.send.proofs.Seen.{seen-new, seen-send}
 
 bytes-append : (a b : List Segment) → bytesOf (a ++ b) ≡ bytesOf a ++ bytesOf b
@@ -94,7 +94,8 @@ pub sent-bytes : (mss : ℕ) (stream : Bool) (bytes : List ℕ) (s : Sender) (m 
     → {n : ℕ} → answerAt mss stream bytes s m ≡ Are n
     → (n ≡ length bytes) × (bytesOf (seen (sendAt mss stream bytes s m .sender) (sendAt mss stream bytes s m .store) .waiting) ≡ bytesOf (seen s m .waiting) ++ bytes)
 sent-bytes mss stream bytes s m o low small e =
-    answered mss stream bytes s m
-    (λ h a. absurd (let z : _≡_ {A = ℕ} 0 1 = cc in omega arith))
-    (λ h k a. absurd (let z : _≡_ {A = ℕ} 0 1 = cc in omega arith))
-    (λ h k a. (cc, rw (seen-send mss stream bytes s m o small) (send-bytes mss stream bytes (seen s m) _ (omega arith) (rw (seen-new mss stream bytes s m o small) (verdict-fits _ _ h k)))))
+    let a = accepted mss stream bytes s m e in (
+      a .0,
+      rw (seen-send mss stream bytes s m o small)
+          (send-bytes mss stream bytes (seen s m) _ (omega arith) (rw (seen-new mss stream bytes s m o small) (verdict-fits _ _ (a .1 .0) (a .1 .1)))),
+    )

@@ -35,12 +35,11 @@ same-length-2 c = search needs
 
 returns : tie.Need-returns
 returns c =
-    let s = c .before .before .before .before .before .before .before .before .before .before .before .before .before in
-    let a = s .args in
+    let a = c .before .before .before .before .before .before .before .before .before .before .before .before .before .args in
     let m = storeOf 8 (lists (a .records .now) (a .room .now)) in
     let e = marks-length 8 (lists (a .records .now) (a .room .now)) in
-    let w = spaced-close (a .new) (a .ring) m (omega arith) in
-    cc
+    let w = c .before .before .before .before .close .ensures in
+    rw (w .0, w .1, ← e) (sym (spaced-close (a .new) (a .ring) m (omega arith)))
 
 returns-2 : tie.Need-returns-2
 returns-2 c =

@@ -1,11 +1,10 @@
 -- `send::queue` meets its contract: the pieces that are left, queued on the memory as it is, give what all of them give. Assumes nothing.
 use native.Mathlib.Omega.{arith}
-use mathlib.Core.Path.{refl}
 use Rattle.ring.specs.Lists.{lists}
 use Rattle.snd_ring.specs.Store.{storeOf}
 use Rattle.snd_ring.proofs.Splits.{marks-length, same-lengths}
 use Rattle.send.specs.Memory.{laid}
-use Rattle.send.proofs.Steps.{Turn, turn-first, turn-next, turn-last, slot-left, piece-fit}
+use Rattle.send.proofs.Steps.{Turn, turn-first, turn-next, turn-last, turn-needs}
 use borrow.Author.Needs.{needs}
 use Rattle.send.proofs.queue.Statement.{statement}
 use Rattle.send.proofs.queue.Tie as tie
@@ -52,12 +51,7 @@ append-requires c κs =
     let a = s .args in
     let x = laid (a .start) (storeOf 8 (lists (a .records .now) (a .room .now))) in
     let l = c .before .before .before .before .before .before .before .loop in
-    let y = laid (l .ring) (storeOf 8 (lists (l .records) (l .room))) in
-    let f = c .before .before .before .before .frg-of in
-    let g = c .before .before .before .before .before .end-of in
-    let e = marks-length 8 (lists (l .records) (l .room)) in
-    let h = slot-left (a .count) (a .mss) (a .stream) (a .bytes .now) (a .from) x (l .left) (l .at) y (l .inv) (omega arith) (s .pre .1 .1 .0) _ _ (f .ensures) (g .ensures) in
-    (l .inv .shaped, (omega arith, (refl, piece-fit (a .count) (a .mss) (a .stream) (a .bytes .now) (a .from) x (l .left) (l .at) y (l .inv) (omega arith) (s .pre .1 .1 .0) _ _ (f .ensures) (g .ensures))))
+    turn-needs (a .count) (a .mss) (a .stream) (a .bytes .now) (a .from) x (l .left) (l .at) (l .ring) (l .records) (l .room) (l .inv) (c .before .before .before .before .before .before .loop-test .taken) (s .pre .1 .1 .0) _ _ (c .before .before .before .before .frg-of .ensures) (c .before .before .before .before .before .end-of .ensures)
 
 loop-less : tie.Need-loop-less Inv-loop μ-loop
 loop-less c = omega arith
@@ -68,11 +62,8 @@ loop-again c =
     let a = s .args in
     let x = laid (a .start) (storeOf 8 (lists (a .records .now) (a .room .now))) in
     let l = c .before .before .before .before .before .before .before .before .before .before .before .before .loop in
-    let y = laid (l .ring) (storeOf 8 (lists (l .records) (l .room))) in
-    let f = c .before .before .before .before .before .before .before .before .before .frg-of in
-    let g = c .before .before .before .before .before .before .before .before .before .before .end-of in
     let w = c .before .before .before .before .append .ensures in
-    turn-next (a .count) (a .mss) (a .stream) (a .bytes .now) (a .from) x (l .left) (l .at) y (l .inv) (c .before .before .before .before .before .before .before .before .before .before .before .loop-test .taken) (s .pre .1 .1 .0) _ _ (f .ensures) (g .ensures) _ (w .0) (w .1)
+    turn-next (a .count) (a .mss) (a .stream) (a .bytes .now) (a .from) x (l .left) (l .at) (l .ring) (l .records) (l .room) (l .inv) (c .before .before .before .before .before .before .before .before .before .before .before .loop-test .taken) (s .pre .1 .1 .0) _ _ (c .before .before .before .before .before .before .before .before .before .frg-of .ensures) (c .before .before .before .before .before .before .before .before .before .before .end-of .ensures) _ (w .0) (w .1)
 
 same-length : tie.Need-same-length Inv-loop μ-loop
 same-length c =

@@ -34,8 +34,7 @@ returns : tie.Need-returns
 returns c =
     let s = c .before .before .before .before .before .before .before .before .before .before .before .before .before .before .before .before .before in
     let a = s .args in
-    let m = storeOf 8 (lists (a .records .now) (a .room .now)) in
-    sent-big (a .mss) (a .stream) (a .bytes .now) (a .sender) m (s .pre .0) (s .pre .1 .1) _ (c .before .before .before .before .before .before .before .before .before .before .last-length .ensures (a .room .now)) _ (c .before .before .before .before .before .before .before .before .before .needed .ensures) (c .before .before .before .before .before .before .before .before .if1 .taken) _ _ (c .refused .ensures) (c .before .before .before .before .before .fill-last .ensures)
+    sent-big (a .mss) (a .stream) (a .bytes .now) (a .sender) (a .records .now) (a .room .now) (s .pre .0) (s .pre .1 .1) _ (c .before .before .before .before .before .before .before .before .before .before .last-length .ensures) _ (c .before .before .before .before .before .before .before .before .before .needed .ensures) (c .before .before .before .before .before .before .before .before .if1 .taken) _ _ (c .refused .ensures) (c .before .before .before .before .before .fill-last .ensures)
 
 slots-in-requires : tie.Need-slots-in-requires
 slots-in-requires c κs = search needs
@@ -63,9 +62,7 @@ returns-2 : tie.Need-returns-2
 returns-2 c =
     let s = c .before .before .before .before .before .before .before .before .before .before .before .before .before in
     let a = s .args in
-    let m = storeOf 8 (lists (a .records .now) (a .room .now)) in
-    let e = marks-length 8 (lists (a .records .now) (a .room .now)) in
-    sent-full (a .mss) (a .stream) (a .bytes .now) (a .sender) m (s .pre .0) (s .pre .1 .1) _ (c .before .before .before .before .before .before .last-length .ensures (a .room .now)) _ (c .before .before .before .before .before .needed .ensures) (omega arith) (omega arith) _ (c .refused2 .ensures)
+    sent-full (a .mss) (a .stream) (a .bytes .now) (a .sender) (a .records .now) (a .room .now) (s .pre .0) (s .pre .1 .1) _ (c .before .before .before .before .before .before .last-length .ensures) _ (c .before .before .before .before .before .needed .ensures) (c .before .before .before .before .if1 .left) _ _ (c .before .before .before .slots-in .ensures) (c .before .before .segments .ensures) (c .before .if2 .taken) _ (c .refused2 .ensures)
 
 fill-last-requires-2 : tie.Need-fill-last-requires-2
 fill-last-requires-2 c κs = search needs
@@ -77,25 +74,13 @@ make-room-requires : tie.Need-make-room-requires
 make-room-requires c κs =
     let s = c .before .before .before .before .before .before .before .before .before .before .before .before .before .before .before .before .before .before .before .before .before .before in
     let a = s .args in
-    let m = storeOf 8 (lists (a .records .now) (a .room .now)) in
-    let e = marks-length 8 (lists (a .records .now) (a .room .now)) in
-    let few = c .before .before .before .before .before .before .before .before .before .before .before .before .before .if1 .left in
-    let room = c .before .before .before .before .before .before .before .before .before .before .if2 .left in
-    let u = c .before .before .before .before .before .before .before .before .before .before .before .segments .ensures in
-    let t = c .before .before .before .before .before .before .before .before .before .before .before .before .slots-in .ensures in
-    room-needs (a .mss) (a .stream) (a .bytes .now) (a .sender) m (s .pre .0) (s .pre .1 .1) _ (c .before .before .before .before .before .before .before .before .before .before .before .before .before .before .before .last-length .ensures (a .room .now)) _ (c .before .before .before .before .before .before .before .before .before .before .before .before .before .before .needed .ensures) (omega arith) (omega arith) _ (c .before .before .joins .ensures) _ (c .before .before .before .before .before .before .before .fill-last2 .ensures)
+    room-needs (a .mss) (a .stream) (a .bytes .now) (a .sender) (a .records .now) (a .room .now) (s .pre .0) (s .pre .1 .1) _ (c .before .before .before .before .before .before .before .before .before .before .before .before .before .before .before .last-length .ensures) _ (c .before .before .before .before .before .before .before .before .before .before .before .before .before .before .needed .ensures) (c .before .before .before .before .before .before .before .before .before .before .before .before .before .if1 .left) _ _ (c .before .before .before .before .before .before .before .before .before .before .before .before .slots-in .ensures) (c .before .before .before .before .before .before .before .before .before .before .before .segments .ensures) (c .before .before .before .before .before .before .before .before .before .before .if2 .left) _ (c .before .before .joins .ensures) _ (c .before .before .before .before .before .before .before .fill-last2 .ensures)
 
 queue-requires : tie.Need-queue-requires
 queue-requires c κs =
     let s = c .before .before .before .before .before .before .before .before .before .before .before .before .before .before .before .before .before .before .before .before .before .before .before .before .before .before .before .before .before in
     let a = s .args in
-    let m = storeOf 8 (lists (a .records .now) (a .room .now)) in
-    let e = marks-length 8 (lists (a .records .now) (a .room .now)) in
-    let few = c .before .before .before .before .before .before .before .before .before .before .before .before .before .before .before .before .before .before .before .before .if1 .left in
-    let room = c .before .before .before .before .before .before .before .before .before .before .before .before .before .before .before .before .before .if2 .left in
-    let u = c .before .before .before .before .before .before .before .before .before .before .before .before .before .before .before .before .before .before .segments .ensures in
-    let t = c .before .before .before .before .before .before .before .before .before .before .before .before .before .before .before .before .before .before .before .slots-in .ensures in
-    queue-needs (a .mss) (a .stream) (a .bytes .now) (a .sender) m (s .pre .0) (s .pre .1 .1) _ (c .before .before .before .before .before .before .before .before .before .before .before .before .before .before .before .before .before .before .before .before .before .before .last-length .ensures (a .room .now)) _ (c .before .before .before .before .before .before .before .before .before .before .before .before .before .before .before .before .before .before .before .before .before .needed .ensures) (omega arith) (omega arith) _ (c .before .before .before .before .before .before .before .before .before .joins .ensures) _ (c .before .before .before .before .before .before .before .before .before .before .before .before .before .before .fill-last2 .ensures) _ _ _ (c .before .before .before .before .before .before .make-room .ensures)
+    queue-needs (a .mss) (a .stream) (a .bytes .now) (a .sender) (a .records .now) (a .room .now) (s .pre .0) (s .pre .1 .1) _ (c .before .before .before .before .before .before .before .before .before .before .before .before .before .before .before .before .before .before .before .before .before .before .last-length .ensures) _ (c .before .before .before .before .before .before .before .before .before .before .before .before .before .before .before .before .before .before .before .before .before .needed .ensures) (c .before .before .before .before .before .before .before .before .before .before .before .before .before .before .before .before .before .before .before .before .if1 .left) _ _ (c .before .before .before .before .before .before .before .before .before .before .before .before .before .before .before .before .before .before .before .slots-in .ensures) (c .before .before .before .before .before .before .before .before .before .before .before .before .before .before .before .before .before .before .segments .ensures) (c .before .before .before .before .before .before .before .before .before .before .before .before .before .before .before .before .before .if2 .left) _ (c .before .before .before .before .before .before .before .before .before .joins .ensures) _ (c .before .before .before .before .before .before .before .before .before .before .before .before .before .before .fill-last2 .ensures) _ _ _ (c .before .before .before .before .before .before .make-room .ensures)
 
 with-ring-requires : tie.Need-with-ring-requires
 with-ring-requires c κs = search needs
@@ -114,13 +99,7 @@ returns-3 : tie.Need-returns-3
 returns-3 c =
     let s = c .before .before .before .before .before .before .before .before .before .before .before .before .before .before .before .before .before .before .before .before .before .before .before .before .before .before .before .before .before .before .before .before .before .before .before in
     let a = s .args in
-    let m = storeOf 8 (lists (a .records .now) (a .room .now)) in
-    let e = marks-length 8 (lists (a .records .now) (a .room .now)) in
-    let few = c .before .before .before .before .before .before .before .before .before .before .before .before .before .before .before .before .before .before .before .before .before .before .before .before .before .before .if1 .left in
-    let room = c .before .before .before .before .before .before .before .before .before .before .before .before .before .before .before .before .before .before .before .before .before .before .before .if2 .left in
-    let u = c .before .before .before .before .before .before .before .before .before .before .before .before .before .before .before .before .before .before .before .before .before .before .before .before .segments .ensures in
-    let t = c .before .before .before .before .before .before .before .before .before .before .before .before .before .before .before .before .before .before .before .before .before .before .before .before .before .slots-in .ensures in
-    sent-all (a .mss) (a .stream) (a .bytes .now) (a .sender) m (s .pre .0) (s .pre .1 .1) _ (c .before .before .before .before .before .before .before .before .before .before .before .before .before .before .before .before .before .before .before .before .before .before .before .before .before .before .before .before .last-length .ensures (a .room .now)) _ (c .before .before .before .before .before .before .before .before .before .before .before .before .before .before .before .before .before .before .before .before .before .before .before .before .before .before .before .needed .ensures) (omega arith) (omega arith) _ (c .before .before .before .before .before .before .before .before .before .before .before .before .before .before .before .joins .ensures) _ (c .before .before .before .before .before .before .before .before .before .before .before .before .before .before .before .before .before .before .before .before .fill-last2 .ensures) _ _ _ (c .before .before .before .before .before .before .before .before .before .before .before .before .make-room .ensures) _ (c .before .before .before .before .before .queue .ensures) _ (c .with-ring .ensures)
+    sent-all (a .mss) (a .stream) (a .bytes .now) (a .sender) (a .records .now) (a .room .now) (s .pre .0) (s .pre .1 .1) _ (c .before .before .before .before .before .before .before .before .before .before .before .before .before .before .before .before .before .before .before .before .before .before .before .before .before .before .before .before .last-length .ensures) _ (c .before .before .before .before .before .before .before .before .before .before .before .before .before .before .before .before .before .before .before .before .before .before .before .before .before .before .before .needed .ensures) (c .before .before .before .before .before .before .before .before .before .before .before .before .before .before .before .before .before .before .before .before .before .before .before .before .before .before .if1 .left) _ _ (c .before .before .before .before .before .before .before .before .before .before .before .before .before .before .before .before .before .before .before .before .before .before .before .before .before .slots-in .ensures) (c .before .before .before .before .before .before .before .before .before .before .before .before .before .before .before .before .before .before .before .before .before .before .before .before .segments .ensures) (c .before .before .before .before .before .before .before .before .before .before .before .before .before .before .before .before .before .before .before .before .before .before .before .if2 .left) _ (c .before .before .before .before .before .before .before .before .before .before .before .before .before .before .before .joins .ensures) _ (c .before .before .before .before .before .before .before .before .before .before .before .before .before .before .before .before .before .before .before .before .fill-last2 .ensures) _ _ _ (c .before .before .before .before .before .before .before .before .before .before .before .before .make-room .ensures) _ (c .before .before .before .before .before .queue .ensures) _ (c .with-ring .ensures)
 
 pub send-spec : {M : Type 1} → statement M
 send-spec =
