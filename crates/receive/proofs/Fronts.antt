@@ -11,16 +11,21 @@ use Rattle.ring.specs.Lists.{Lists}
 use Rattle.ring.specs.Places.{summed, along}
 use Rattle.ring.specs.Records.{put}
 use Rattle.rcv_ring.specs.declared.RcvRing.{RcvRing}
-use Rattle.rcv_ring.specs.Places.{frgAt, sizeAt, payloadAt}
+use Rattle.rcv_ring.specs.Places.{frgAt, sizeAt, payloadAt, Sound}
+use Rattle.rcv_ring.specs.Moves.{droppedBy}
 use Rattle.rcv_ring.specs.Views.{span}
 use Rattle.rcv_ring.proofs.Spans.{span-length, span-take, summed-span}
+use Rattle.rcv_ring.proofs.Keeps.{dropped-sound}
 use Rattle.block.specs.declared.receiver.Receiver.{Receiver}
 use Rattle.block.specs.declared.refusal.Refusal.the-variants.{RecvQueueEmpty, ExpectingFragment, UserBufTooSmall}
+use Rattle.block.specs.Parts.{withRcvRing}
 use Rattle.receiving.specs.Rules.{empty, expecting, gives, message, sum, expects, peeked, unlessLonger}
 use Rattle.receive.specs.declared.Length.the-variants.{Is, Refused}
 use Rattle.receive.specs.declared.Message.{Message}
 use Rattle.receive.specs.Memory.{queueFrgs, queueSizes, Spans, moveBufAt, peekAt, answerAt, messageAt, freedAt, handedAt, bytesAt, recvBy, recvAt}
-use Rattle.receive.proofs.Seen.{message-within}
+use Rattle.receive.specs.Fits.{Lies}
+use Rattle.receive.proofs.Seen.{message-in}
+use Rattle.receive.proofs.Exact.{sound-lies}
 
 -- ---- `message_of`: i segments passed, none of them the last
 
@@ -42,19 +47,16 @@ module _ (r : RcvRing) (records : List ℕ) where
   unfolding sum
   sizes-summed k h = rw (span-take (sizeAt r records) 0 (r .queued) k h) (sym (summed-span sum refl (λ x l. refl) (sizeAt r records) 0 k))
 
-  frgs-within : message (queueFrgs r records) ≤ r .queued
-  frgs-within = let a = message-within (queueFrgs r records) in let b = span-length (frgAt r records) 0 (r .queued) in omega arith
-
   pub spans-of : (k : ℕ) → k ≡ message (queueFrgs r records) → (size : ℕ) → size ≡ summed (sizeAt r records) 0 k
       → Spans (queueFrgs r records) (queueSizes r records) (record { segments = k; size = size })
-  spans-of k e size s = record { segments-is = e; size-is = s ∙ rw e (sym (sizes-summed (message (queueFrgs r records)) frgs-within)) }
+  spans-of k e size s = record { segments-is = e; size-is = s ∙ rw e (sym (sizes-summed (message (queueFrgs r records)) (message-in r records))) }
 
   module _ (m : Message) (s : Spans (queueFrgs r records) (queueSizes r records) m) where
     pub segments-in : m .segments ≤ r .queued
-    segments-in = rw (s .segments-is) frgs-within
+    segments-in = rw (s .segments-is) (message-in r records)
 
     pub size-summed : m .size ≡ summed (sizeAt r records) 0 (m .segments)
-    size-summed = s .size-is ∙ rw (s .segments-is) (sizes-summed (message (queueFrgs r records)) frgs-within)
+    size-summed = s .size-is ∙ rw (s .segments-is) (sizes-summed (message (queueFrgs r records)) (message-in r records))
 
 -- ---- peeksize
 
@@ -78,6 +80,16 @@ module _ (r : Receiver) (records : List ℕ) where
 
     pub peek-whole : b ≡ false → (m : Message) → Spans (queueFrgs (r .ring) records) (queueSizes (r .ring) records) m → peekAt r records ≡ gives (m .size)
     peek-whole t m s = front-peek ∙ rw (t, s .size-is)
+
+-- ---- `hand_out`: what `move_buf` asks and leaves of the ring without its first k
+
+module _ (r : Receiver) (l : Lists) (k : ℕ) (g : RcvRing) (w : Receiver) (x : g ≡ droppedBy (length (l .records)) k (r .ring)) (y : w ≡ withRcvRing r (r .«rcv_nxt») g) where
+  pub left-lies : Sound (r .ring) l → k ≤ r .ring .queued → Lies w (l .records)
+  left-lies s h = rw (y, x) (sound-lies (dropped-sound (r .ring) l s k h))
+
+  pub left-is : (r′ : Receiver) → r′ ≡ moveBufAt w (l .records) → r′ ≡ moveBufAt (freedAt (length (l .records)) k r) (l .records)
+  unfolding freedAt
+  left-is r′ e = e ∙ rw (y, x)
 
 -- ---- recv
 

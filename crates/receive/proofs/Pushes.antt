@@ -8,6 +8,7 @@ use Rattle.serial.specs.Branch.{pick-true, pick-false}
 use Rattle.serial.specs.Window.{inWindow, acknowledged}
 use Rattle.ring.specs.Lists.{Lists}
 use Rattle.ring.specs.Records.{putSlot}
+use Rattle.rcv_ring.specs.declared.RcvRing.{RcvRing}
 use Rattle.rcv_ring.specs.Moves.{storedAt}
 use Rattle.rcv_ring.specs.Moves as ring
 use Rattle.rcv_ring.specs.Views.{heldAt}
@@ -22,20 +23,23 @@ use Rattle.receive.specs.Fits.{Lies, Good}
 use Rattle.receive.proofs.Seen.{slot-in}
 use Rattle.receive.proofs.Exact.{sound-lies}
 
--- ---- `parse_data`: its number is held, or it is stored
+-- ---- `parse_data`: at the distance d its number is held, by the test t, or it is stored there
 
-module _ (r : Receiver) (l : Lists) (s : Segment) where
-  pub data-held : heldAt (r .ring) (l .records) (distanceOf r s) ≡ true → (r′ : Receiver) → r′ ≡ moveBufAt r (l .records) → side r′ l ≡ movedAt (storedIn r l s)
+module _ (r : Receiver) (l : Lists) (s : Segment) (d : ℕ) (is : d ≡ distanceOf r s) (t : Bool) (test : t ≡ heldAt (r .ring) (l .records) d) where
+  by-test : (b : Bool) → t ≡ b → heldAt (r .ring) (l .records) (distanceOf r s) ≡ b
+  by-test b e = ap (heldAt (r .ring) (l .records)) (sym is) ∙ sym test ∙ e
+
+  pub data-held : t ≡ true → (r′ : Receiver) → r′ ≡ moveBufAt r (l .records) → side r′ l ≡ movedAt (storedIn r l s)
   unfolding movedAt storedIn
-  data-held e r′ q = ap (λ (x : Receiver). side x l) q ∙ ap movedAt (sym (pick-true _ _ e))
+  data-held e r′ q = ap (λ (x : Receiver). side x l) q ∙ ap movedAt (sym (pick-true _ _ (by-test true e)))
 
-  module _ (w : Receiver) (l′ : Lists) (f : w ≡ withRcvRing r (r .«rcv_nxt») (ring.reached (r .ring) (distanceOf r s))) (g : l′ ≡ storedAt (r .ring) l (distanceOf r s) (s .frg) (s .payload)) where
+  module _ (g : RcvRing) (w : Receiver) (l′ : Lists) (x : g ≡ ring.reached (r .ring) d) (y : w ≡ withRcvRing r (r .«rcv_nxt») g) (z : l′ ≡ storedAt (r .ring) l d (s .frg) (s .payload)) where
     pub new-lies : Good r l → inWindow (r .«rcv_nxt») (r .«rcv_wnd») (s .sn) ≡ true → s .frg < 65536 → length (s .payload) ≤ 1476 → Lies w (l′ .records)
-    new-lies good inside low fit = rw (f, g) (sound-lies (store-sound (r .ring) l (good .sound) (distanceOf r s) (s .frg) (s .payload) (slot-in good (s .sn) inside) low fit))
+    new-lies good inside low fit = rw (y, x, z, is) (sound-lies (store-sound (r .ring) l (good .sound) (distanceOf r s) (s .frg) (s .payload) (slot-in good (s .sn) inside) low fit))
 
-    pub data-new : heldAt (r .ring) (l .records) (distanceOf r s) ≡ false → (r′ : Receiver) → r′ ≡ moveBufAt w (l′ .records) → side r′ l′ ≡ movedAt (storedIn r l s)
+    pub data-new : t ≡ false → (r′ : Receiver) → r′ ≡ moveBufAt w (l′ .records) → side r′ l′ ≡ movedAt (storedIn r l s)
     unfolding movedAt storedIn
-    data-new e r′ q = ap (λ (x : Receiver). side x l′) q ∙ ap movedAt (rw (f, g) (sym (pick-false _ _ e)))
+    data-new e r′ q = ap (λ (x : Receiver). side x l′) q ∙ ap movedAt (rw (y, x, z, is) (sym (pick-false _ _ (by-test false e))))
 
 -- ---- `push`
 

@@ -15,6 +15,7 @@ use Rattle.ring.specs.Lists.{Lists}
 use Rattle.ring.specs.Places.{summed, along}
 use Rattle.ring.specs.Counting.{atLeast, wordAt, count}
 use Rattle.ring.proofs.Counting.{by-least}
+use Rattle.rcv_ring.specs.declared.RcvRing.{RcvRing}
 use Rattle.rcv_ring.specs.Places.{frgAt, sizeAt, payloadAt, Sound}
 use Rattle.rcv_ring.specs.Moves.{storedAt, droppedBy}
 use Rattle.rcv_ring.specs.Moves as ring
@@ -25,6 +26,7 @@ use Rattle.rcv_ring.proofs.Stores.{records-length, room-length}
 use Rattle.rcv_ring.proofs.Keeps.{store-sound, moved-sound, dropped-sound}
 use Rattle.rcv_ring.proofs.Copies.{payload-size}
 use Rattle.block.specs.declared.receiver.Receiver.{Receiver}
+use Rattle.block.specs.Parts.{withRcvRing}
 use Rattle.receiving.specs.Rules.{Segment, Receiving, numbers, marks, sizes, payloads, ready, moved, moveBuf, skipped, isHeld, reached, insert, stored, push, message, joined, Answer, gives, peek, recvAnswer, freed, received, recv}
 use Rattle.receiving.specs.Rules as rules
 use Rattle.receiving.proofs.Laws.{and-left}
@@ -128,7 +130,7 @@ module _ {r : Receiver} {l : Lists} (good : Good r l) (s : Segment) (frg : s .fr
   d = distanceOf r s
 
   abbrev put : Side
-  put = side (record { «rcv_nxt» = r .«rcv_nxt»; «rcv_wnd» = r .«rcv_wnd»; largest = r .largest; ring = ring.reached (r .ring) d }) (storedAt (r .ring) l d (s .frg) (s .payload))
+  put = side (withRcvRing r (r .«rcv_nxt») (ring.reached (r .ring) d)) (storedAt (r .ring) l d (s .frg) (s .payload))
 
   -- what holds of either side holds of the outcome
   stored-by : (P : Side → Type 0) → P (side r l) → (heldAt (r .ring) (l .records) d ≡ false → P put) → P (storedIn r l s)
@@ -224,7 +226,7 @@ module _ {r : Receiver} {l : Lists} (good : Good r l) (s : Segment) (frg : s .fr
 
 -- ---- peeksize and recv
 
-pub message-within : (l : List ℕ) → message l ≤ length l
+message-within : (l : List ℕ) → message l ≤ length l
 unfolding message
 message-within [] = zero-le
 message-within (f ∷ l) = go (eqb f 0) (message-within l)
@@ -233,12 +235,12 @@ message-within (f ∷ l) = go (eqb f 0) (message-within l)
     go true h = suc-le-suc zero-le
     go false h = suc-le-suc h
 
+pub message-in : (r : RcvRing) (records : List ℕ) → message (queueFrgs r records) ≤ r .queued
+message-in r records = let a = message-within (queueFrgs r records) in let b = span-length (frgAt r records) 0 (r .queued) in omega arith
+
 pub message-queued : (r : Receiver) (records : List ℕ) → messageAt r records ≤ r .ring .queued
 unfolding messageAt
-message-queued r records =
-    let a = message-within (queueFrgs (r .ring) records) in
-    let b = span-length (frgAt (r .ring) records) 0 (r .ring .queued) in
-    omega arith
+message-queued r records = message-in (r .ring) records
 
 module _ (r : Receiver) (l : Lists) where
   queue-marks : marks (seen r l .queue) ≡ queueFrgs (r .ring) (l .records)
