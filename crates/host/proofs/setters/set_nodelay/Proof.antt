@@ -43,7 +43,7 @@ same-length-2 c = search needs
 
 -- src/setters.rt:35:1
 returns-2 : tie.Need-returns-2
-returns-2 c = 
+returns-2 c =
     let a = c .before .before .before .before .before .before .before .before .before .before .before .args in
     let l = a .words .now in
     set-done (λ k. setNodelay k (a .nodelay) (a .interval) (a .resend) (a .nc)) 0 l (λ m. withNodelayWords (setNodelay (blockOf l) (a .nodelay) (a .interval) (a .resend) (a .nc)) m) (c .before .before .before .before .before .before .before .before .is-block .ensures) (c .before .before .before .before .before .before .before .if1 .left) (λ i. omega (arith, c .before .before .before .before .before .before .before .before .before .before .slice-known .given i)) (nodelay-words (blockOf l) (a .nodelay) (a .interval) (a .resend) (a .nc)) refl
