@@ -23,7 +23,7 @@ use Rattle.transmit.specs.Memory.{Side, side, frg}
 use Rattle.send.specs.declared.Sent.{Sent}
 use Rattle.send.specs.Memory.{Laid, laid, lastLength, queuedAt, spacedAt, joining, new, verdictAt, filledAt, sentAt, leftAt, sendAt, answerAt, SentAs}
 use Rattle.send.proofs.Numbers.{joins-within, verdict-big, verdict-full, verdict-fits}
-use Rattle.send.proofs.Spaces.{Keeps, keeps-same, keeps-on, spaced-keeps, spaced-room}
+use Rattle.send.proofs.Spaces.{Keeps, keeps-same, keeps-on, spaced-keeps, spaced-unsent, spaced-room}
 use Rattle.send.proofs.Queues.{Behind, queued-behind}
 use Rattle.send.proofs.Steps.{fill-needs}
 
@@ -126,6 +126,12 @@ module _ (mss : ℕ) (stream : Bool) (bytes : List ℕ) (s : Sender) (m : Store)
 
     pub sent-keeps : Keeps (s .ring) m (sentAt mss stream bytes s m)
     sent-keeps = keeps-on made-keeps (sent-behind .keeps)
+
+    pub sent-unsent : sentAt mss stream bytes s m .ring .unsent ≡ s .ring .unsent + new mss stream bytes s m
+    sent-unsent =
+        let a = sent-behind .more in
+        let b = spaced-unsent (new mss stream bytes s m) (s .ring) (filledAt mss stream bytes s m) (filled-keeps .sound) in
+        omega arith
 
 -- ---- `send` on the lists a and b: the last queued segment has `last` bytes, and k new ones are needed
 
