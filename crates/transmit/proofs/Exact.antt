@@ -11,8 +11,7 @@ use lib.ListN.{length}
 use borrow.Author.Tests.{not-true, not-false}
 use Rattle.ring.specs.Lists.{Lists, lists}
 use Rattle.ring.proofs.Places.{place-zero}
-use Rattle.ring.proofs.Counting.{count-le, count-under}
-use Rattle.snd_ring.specs.Marks.{markAt}
+use Rattle.ring.proofs.Counting.{count-le}
 use Rattle.snd_ring.specs.Store.{Store, storeOf, Sound}
 use Rattle.snd_ring.proofs.Splits.{marks-length, rows-length, store-room}
 use Rattle.snd_ring.proofs.Tests.{fit-marked, marked-fit}
@@ -25,7 +24,7 @@ use Rattle.block.proofs.Together.{goes, stops}
 use Rattle.sending.specs.declared.Latest.{Latest}
 use Rattle.transmit.specs.Memory.{Side, side, unaAt, ackAt, fastackAt}
 use Rattle.transmit.specs.Fits.{sendLent, SendLent, sendFits, SendFits, Lies}
-use Rattle.transmit.proofs.Seen.{una-sound, ack-sound, fastack-sound}
+use Rattle.transmit.proofs.Seen.{live-flying, una-sound, ack-sound, fastack-sound}
 
 -- ---- the test
 
@@ -96,20 +95,15 @@ sender-fits-of s m o few =
     record {
       used = let a = o .shaped .many in omega arith;
       gaps = let a = count-le 1 (m .marks) (s .ring .start) 0 (s .ring .reach) in omega arith;
-      front = go (ℕ-discrete (s .ring .reach) 0) (ℕ-discrete (s .ring .flying) 0);
+      front = go (ℕ-discrete (s .ring .reach) 0);
       start = let a = o .shaped .inside in omega arith;
     }
   where
-    first : markAt (m .marks) (s .ring .start) 0 ≡ 0 → 0 < s .ring .reach → ⊥
-    first z h = o .marked .normal h (rw (place-zero (length (m .marks)) (s .ring .start) (o .shaped .inside)) at z)
-
-    go : Dec (s .ring .reach ≡ 0) → Dec (s .ring .flying ≡ 0) → (s .ring .reach ≡ 0) ⊎ (0 < s .ring .flying)
-    go (yes r) f = inl r
-    go (no r) (no f) = inr (omega arith)
-    go (no r) (yes f) =
-        let e = o .marked .counted in
-        let u = count-under 1 (m .marks) (s .ring .start) 0 (s .ring .reach) (omega arith) 0 (omega arith) (omega arith) in
-        absurd (first (omega arith) (omega arith))
+    go : Dec (s .ring .reach ≡ 0) → (s .ring .reach ≡ 0) ⊎ (0 < s .ring .flying)
+    go (yes r) = inl r
+    go (no r) =
+        let h : 0 < s .ring .reach = omega arith in
+        inr (live-flying (s .ring) m o 0 h (rw (place-zero (length (m .marks)) (s .ring .start) (o .shaped .inside)) (o .marked .normal h)))
 
 -- ---- what una, acks and fastack ask, and that they keep it
 

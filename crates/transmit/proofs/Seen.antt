@@ -112,6 +112,12 @@ una-kept una s m = record { next = refl; xmit = refl; dead = refl }
 
 -- ---- an ack
 
+-- where a segment is in flight, `flying` is not 0
+pub live-flying : (r : SndRing) (m : Store) → Sound 8 r m → (i : ℕ) → i < r .reach → (markAt (m .marks) (r .start) i ≡ 0 → ⊥) → 0 < r .flying
+live-flying r m o i h live =
+    let e = o .marked .counted in
+    by-less 0 (r .flying) (λ a. a) (λ a. let u = count-under 1 (m .marks) (r .start) 0 (r .reach) (omega arith) i (omega arith) (omega arith) in absurd (live (omega arith)))
+
 second : (a b : Bool) → (a && b) ≡ true → b ≡ true
 second true b h = h
 second false b h = cc
@@ -164,15 +170,8 @@ module _ (x : ℕ) (s : Sender) (m : Store) where
       unfolding removedAt
       removed-sound = take-sound 8 (s .ring) m o i (met .flies) (met .live)
 
-      -- it flies
       pub found-flying : (i < s .ring .reach) × (0 < s .ring .flying)
-      found-flying =
-          let a = met .flies in
-          let b = o .marked .counted in (
-            a,
-            by-less 0 (s .ring .flying) (λ h. h)
-                (λ h. let c = count-under 1 (m .marks) (s .ring .start) 0 (s .ring .reach) (omega arith) i (omega arith) (omega arith) in absurd (met .live (omega arith))),
-          )
+      found-flying = (met .flies, live-flying (s .ring) m o i (met .flies) (met .live))
 
     abbrev rule : List ℕ → Sending
     rule l = cond (found (s .«snd_una») (s .«snd_nxt») x l) (withFlying (seen s m) (removed (seen s m .flying) (seek x l))) (seen s m)
