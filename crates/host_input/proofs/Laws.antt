@@ -1,24 +1,24 @@
 -- What a host is told of a datagram, by whether its words are a block, and that it is told one thing only. Assumes nothing.
 use Prim.Native.Nat.{ℕ}
 use mathlib.Core.Path.{_≡_, sym, ap, _∙_}
-use mathlib.Core.Bool.{true, false}
+use mathlib.Core.Bool.{Bool, true, false, not}
+use borrow.Author.Tests.{not-true, not-false}
 use mathlib.Core.List.{List, [], _∷_}
 use lib.ListN.{length}
 use Rattle.serial.specs.Branch.{pick, pick-true, pick-false}
-use Rattle.slots.specs.Pool.{Lists}
+use Rattle.ring.specs.Lists.{Lists}
+use Rattle.snd_ring.specs.Store.{storeOf}
 use Rattle.block.specs.declared.Kcp.{Kcp}
 use Rattle.block.specs.declared.refusal.Bytes.{Bytes}
 use Rattle.block.specs.declared.refusal.Bytes.the-variants.{Are, Refused}
 use Rattle.block.specs.declared.refusal.Refusal.{Refusal}
 use Rattle.block.specs.declared.refusal.Values.{Values}
 use Rattle.block.specs.Refusals.{numberOfBytes, valuesOf, rowOf}
-use Rattle.words.specs.declared.Found.{Found}
-use Rattle.words.specs.declared.Found.the-variants.{Block, NoBlock}
-use Rattle.words.specs.Words.{wordsOf, blockOf, isBlock, readOf}
-use Rattle.words.proofs.Reading.{found-block, found-none, block-length}
+use Rattle.words.specs.Words.{wordsOf, blockOf, isBlock}
+use Rattle.words.proofs.Tests.{block-length}
 use Rattle.host.specs.Words.{setWords}
 use Rattle.input.specs.Datagram.{ReadOut}
-use Rattle.kcp.specs.Input.{inputOf}
+use Rattle.kcp_input.specs.Input.{inputOf}
 use Rattle.host_input.specs.Words.{valuesIn, Left, WordsRead}
 
 -- the values of an answer that is a count, and of one that is a refusal
@@ -28,15 +28,15 @@ values-counted e = ap valuesIn (sym e)
 pub values-refused : {a : Bytes} {why : Refusal} {v : Values} → a ≡ Refused why → v ≡ rowOf (valuesOf why) → (v .first ∷ v .second ∷ []) ≡ valuesIn a
 values-refused e f = ap (λ (v : Values). v .first ∷ v .second ∷ []) f ∙ ap valuesIn (sym e)
 
-pub held-length : (l : List ℕ) {x : Found} {b : Kcp} → x ≡ readOf l → x ≡ Block b → length l ≡ 40
-held-length l e h = block-length l (found-block l e h .0)
+pub held-length : (l : List ℕ) {t : Bool} → t ≡ isBlock l → not t ≡ false → length l ≡ 35
+held-length l {t} e h = block-length l (sym e ∙ not-false t h)
 
-module _ (rcv : Lists) (acks waiting : List ℕ) (snd : Lists) (s l : List ℕ) {x : Found} (e : x ≡ readOf l) where
+module _ (rcv : Lists) (acks waiting : List ℕ) (snd : Lists) (s l : List ℕ) {t : Bool} (e : t ≡ isBlock l) where
   -- the words are no block
-  pub read-none : x ≡ NoBlock → WordsRead rcv acks waiting snd s l (record { number = 15; values = 0 ∷ 0 ∷ []; skipped = 0; words = l; rcv = rcv; acks = acks; snd = snd })
+  pub read-none : not t ≡ true → WordsRead rcv acks waiting snd s l (record { number = 15; values = 0 ∷ 0 ∷ []; skipped = 0; words = l; rcv = rcv; acks = acks; snd = storeOf 8 snd })
   unfolding setWords
   read-none h =
-      let none : isBlock l ≡ false = found-none l e h in
+      let none : isBlock l ≡ false = sym e ∙ not-true t h in
       record {
         refusal = sym (pick-false _ _ none);
         values = sym (pick-false _ _ none);
@@ -48,11 +48,11 @@ module _ (rcv : Lists) (acks waiting : List ℕ) (snd : Lists) (s l : List ℕ) 
       }
 
   -- they are the block b, and input left o
-  module _ {b : Kcp} (h : x ≡ Block b) (o : ReadOut) (is : o ≡ inputOf b rcv acks waiting snd s) where
+  module _ {b : Kcp} (h : not t ≡ false) (read : b ≡ blockOf l) (o : ReadOut) (is : o ≡ inputOf b rcv acks waiting snd s) where
     gives : {A : Type 0} (f : ReadOut → A) (z : A) → f o ≡ pick (isBlock l) (f (inputOf (blockOf l) rcv acks waiting snd s)) z
     gives f z =
-        let held : (isBlock l ≡ true) × (b ≡ blockOf l) = found-block l e h in
-        ap f (is ∙ ap (λ (k : Kcp). inputOf k rcv acks waiting snd s) (held .1)) ∙ sym (pick-true _ _ (held .0))
+        let held : isBlock l ≡ true = sym e ∙ not-false t h in
+        ap f (is ∙ ap (λ (k : Kcp). inputOf k rcv acks waiting snd s) read) ∙ sym (pick-true _ _ held)
 
     pub read-done : {n : ℕ} {v a : List ℕ} → n ≡ numberOfBytes (o .answer) → v ≡ valuesIn (o .answer) → a ≡ wordsOf (o .block)
         → WordsRead rcv acks waiting snd s l (record { number = n; values = v; skipped = o .skipped; words = a; rcv = o .rcv; acks = o .acks; snd = o .snd })

@@ -4,12 +4,13 @@ use Prim.Native.Nat.{ℕ}
 use mathlib.Core.Path.{_≡_}
 use mathlib.Core.List.{List, [], _∷_}
 use Rattle.serial.specs.Branch.{pick}
-use Rattle.slots.specs.Pool.{Lists}
+use Rattle.ring.specs.Lists.{Lists}
+use Rattle.snd_ring.specs.Store.{Store, storeOf}
 use Rattle.block.specs.declared.refusal.Bytes.{Bytes}
 use Rattle.block.specs.Refusals.{numberOfBytes, valuesOfBytes, rowOf}
 use Rattle.words.specs.Words.{blockOf, isBlock}
 use Rattle.host.specs.Words.{setWords}
-use Rattle.kcp.specs.Input.{inputOf}
+use Rattle.kcp_input.specs.Input.{inputOf}
 
 -- the bytes consumed, or what goes with the refusal, and 0 where there is none
 abbrev pub valuesIn : Bytes → List ℕ
@@ -23,9 +24,9 @@ pub record Left : Type 0 where
   pub words : List ℕ
   pub rcv : Lists
   pub acks : List ℕ
-  pub snd : Lists
+  pub snd : Store
 
--- of a datagram s into the words l, with both pools and the ack memory
+-- of a datagram s into the words l, with the memory of both sides and the ack memory
 pub record WordsRead (rcv : Lists) (acks waiting : List ℕ) (snd : Lists) (s l : List ℕ) (o : Left) : Type 0 where
   pub refusal : o .number ≡ pick (isBlock l) (numberOfBytes (inputOf (blockOf l) rcv acks waiting snd s .answer)) 15
   pub values : o .values ≡ pick (isBlock l) (valuesIn (inputOf (blockOf l) rcv acks waiting snd s .answer)) (0 ∷ 0 ∷ [])
@@ -33,4 +34,4 @@ pub record WordsRead (rcv : Lists) (acks waiting : List ℕ) (snd : Lists) (s l 
   pub words : o .words ≡ setWords (λ k. inputOf k rcv acks waiting snd s .block) l
   pub receives : o .rcv ≡ pick (isBlock l) (inputOf (blockOf l) rcv acks waiting snd s .rcv) rcv
   pub list : o .acks ≡ pick (isBlock l) (inputOf (blockOf l) rcv acks waiting snd s .acks) acks
-  pub sends : o .snd ≡ pick (isBlock l) (inputOf (blockOf l) rcv acks waiting snd s .snd) snd
+  pub sends : o .snd ≡ pick (isBlock l) (inputOf (blockOf l) rcv acks waiting snd s .snd) (storeOf 8 snd)

@@ -1,10 +1,10 @@
-// One datagram into a block that a host keeps as forty words.
+// One datagram into a block that a host keeps as words.
 ghost use mathlib.Core.Path.{_≡_};
-ghost use Rattle.slots.specs.Pool.{lists};
+ghost use Rattle.ring.specs.Lists.{lists};
+ghost use Rattle.snd_ring.specs.Store.{storeOf};
 ghost use Rattle.block.specs.Refusals.{numberOfBytes};
 ghost use Rattle.host_input.specs.Words.{valuesIn, WordsRead};
 use block::refusal::Bytes;
-use words::Found;
 
 // The number of an answer's refusal, or 0.
 fn number_of(answer: Bytes) -> u32
@@ -34,10 +34,8 @@ fn values_in(answer: Bytes) -> [usize; 2]
 // were skipped.
 pub fn input(
     words: &mut [u32],
-    rcv_order: &mut [u32],
     rcv_records: &mut [u32],
     rcv_room: &mut [u8],
-    snd_order: &mut [u32],
     snd_records: &mut [u32],
     snd_room: &[u8],
     acks: &mut [u32],
@@ -46,22 +44,18 @@ pub fn input(
     values: &mut [usize; 2],
     skipped: &mut u32,
 ) -> u32
-    ensures { λ r. ⌜ WordsRead (lists (now («rcv_order» .entry)) (now («rcv_records» .entry)) (now («rcv_room» .entry))) (now (acks .entry)) (now (waiting .entry))
-        (lists (now («snd_order» .entry)) (now («snd_records» .entry)) (now («snd_room» .entry))) (now (datagram .entry)) (now (words .entry))
-        (record { number = r; values = now (values .exit); skipped = now (skipped .exit); words = now (words .exit); rcv = lists (now («rcv_order» .exit)) (now («rcv_records» .exit)) (now («rcv_room» .exit)); acks = now (acks .exit); snd = lists (now («snd_order» .exit)) (now («snd_records» .exit)) (now («snd_room» .entry)) }) ⌝ }
+    ensures { λ r. ⌜ WordsRead (lists (now («rcv_records» .entry)) (now («rcv_room» .entry))) (now (acks .entry)) (now (waiting .entry)) (lists (now («snd_records» .entry)) (now («snd_room» .entry))) (now (datagram .entry)) (now (words .entry))
+        (record { number = r; values = now (values .exit); skipped = now (skipped .exit); words = now (words .exit); rcv = lists (now («rcv_records» .exit)) (now («rcv_room» .exit)); acks = now (acks .exit); snd = storeOf 8 (lists (now («snd_records» .exit)) (now («snd_room» .entry))) }) ⌝ }
 {
-    let found = words::read(words);
-    let Found::Block { block } = found else {
+    if !words::is_block(words) {
         *values = [0, 0];
         *skipped = 0;
         return 15;
-    };
-    let out = kcp::input(
-        block,
-        rcv_order,
+    }
+    let out = kcp_input::input(
+        words::block(words),
         rcv_records,
         rcv_room,
-        snd_order,
         snd_records,
         snd_room,
         acks,

@@ -1,3 +1,3 @@
 pub mod Told
 pub mod Numbers
-pub mod Pools
+pub mod Tests

@@ -1,5 +1,6 @@
-// One datagram into a block that a host keeps as forty words. Words that are no block are refused by 15, which leaves all.
-ghost use Rattle.slots.specs.Pool.{lists};
+// One datagram into a block that a host keeps as words. Words that are no block are refused by 15, which leaves all.
+ghost use Rattle.ring.specs.Lists.{lists};
+ghost use Rattle.snd_ring.specs.Store.{storeOf};
 ghost use Rattle.host_input.specs.Words.{WordsRead};
 
 // One datagram. 0, and then `values` are the bytes consumed and 0; or 15, 11 or 1, which leave all, or 2, 3 or 4, which leave what the segments
@@ -8,10 +9,8 @@ ghost use Rattle.host_input.specs.Words.{WordsRead};
 #[no_mangle]
 pub extern "C" fn kcp_input(
     words: &mut [u32],
-    rcv_order: &mut [u32],
     rcv_records: &mut [u32],
     rcv_room: &mut [u8],
-    snd_order: &mut [u32],
     snd_records: &mut [u32],
     snd_room: &[u8],
     acks: &mut [u32],
@@ -20,16 +19,13 @@ pub extern "C" fn kcp_input(
     values: &mut [usize; 2],
     skipped: &mut u32,
 ) -> u32
-    ensures { λ r. ⌜ WordsRead (lists (now («rcv_order» .entry)) (now («rcv_records» .entry)) (now («rcv_room» .entry))) (now (acks .entry)) (now (waiting .entry))
-        (lists (now («snd_order» .entry)) (now («snd_records» .entry)) (now («snd_room» .entry))) (now (datagram .entry)) (now (words .entry))
-        (record { number = r; values = now (values .exit); skipped = now (skipped .exit); words = now (words .exit); rcv = lists (now («rcv_order» .exit)) (now («rcv_records» .exit)) (now («rcv_room» .exit)); acks = now (acks .exit); snd = lists (now («snd_order» .exit)) (now («snd_records» .exit)) (now («snd_room» .entry)) }) ⌝ }
+    ensures { λ r. ⌜ WordsRead (lists (now («rcv_records» .entry)) (now («rcv_room» .entry))) (now (acks .entry)) (now (waiting .entry)) (lists (now («snd_records» .entry)) (now («snd_room» .entry))) (now (datagram .entry)) (now (words .entry))
+        (record { number = r; values = now (values .exit); skipped = now (skipped .exit); words = now (words .exit); rcv = lists (now («rcv_records» .exit)) (now («rcv_room» .exit)); acks = now (acks .exit); snd = storeOf 8 (lists (now («snd_records» .exit)) (now («snd_room» .entry))) }) ⌝ }
 {
     host_input::input(
         words,
-        rcv_order,
         rcv_records,
         rcv_room,
-        snd_order,
         snd_records,
         snd_room,
         acks,

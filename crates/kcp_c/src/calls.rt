@@ -1,34 +1,31 @@
-// The calls over a block that a host keeps as forty words. Words that are no block are refused by 15, which leaves all.
+// The calls over a block that a host keeps as words. Words that are no block are refused by 15, which leaves all.
 ghost use mathlib.Core.Path.{_≡_};
 ghost use Rattle.serial.specs.Branch.{pick};
 ghost use Rattle.block.specs.Sizes.{mtuSize};
+ghost use Rattle.ring.specs.Lists.{lists};
 ghost use Rattle.block.specs.Fresh.{freshPlain, freshStream};
 ghost use Rattle.block.specs.Setters.{setMtu, setInterval, setNodelay, setRxMinrto, setFastResend, setMaximumResendTimes, inputConv, setConv};
 ghost use Rattle.host.specs.Words.{WordsSet, WordsMade};
 
-// A fresh block that keeps messages apart. 0, or 15 where there are not forty words or a lent size is outside the limits.
+// A fresh block that keeps messages apart. 0, or 15 where there are not words or a lent size is outside the limits.
 #[no_mangle]
 pub extern "C" fn kcp_new(
     words: &mut [u32],
     conv: u32,
-    rcv_order: &[u32],
     rcv_records: &[u32],
     rcv_room: &[u8],
-    snd_order: &[u32],
     snd_records: &[u32],
     snd_room: &[u8],
     acks: &[u32],
     waiting: &[u8],
 ) -> u32
-    ensures { λ r. ⌜ WordsMade (record { rcvOrder = now («rcv_order» .entry); rcvRecords = now («rcv_records» .entry); rcvRoom = now («rcv_room» .entry); sndOrder = now («snd_order» .entry); sndRecords = now («snd_records» .entry); sndRoom = now («snd_room» .entry); acks = now (acks .entry); waiting = now (waiting .entry) }) (freshPlain conv) (now (words .entry)) r (now (words .exit)) ⌝ }
+    ensures { λ r. ⌜ WordsMade (record { rcv = lists (now («rcv_records» .entry)) (now («rcv_room» .entry)); snd = lists (now («snd_records» .entry)) (now («snd_room» .entry)); acks = now (acks .entry); waiting = now (waiting .entry) }) (freshPlain conv) (now (words .entry)) r (now (words .exit)) ⌝ }
 {
     host::make::new(
         words,
         conv,
-        rcv_order,
         rcv_records,
         rcv_room,
-        snd_order,
         snd_records,
         snd_room,
         acks,
@@ -41,24 +38,20 @@ pub extern "C" fn kcp_new(
 pub extern "C" fn kcp_new_stream(
     words: &mut [u32],
     conv: u32,
-    rcv_order: &[u32],
     rcv_records: &[u32],
     rcv_room: &[u8],
-    snd_order: &[u32],
     snd_records: &[u32],
     snd_room: &[u8],
     acks: &[u32],
     waiting: &[u8],
 ) -> u32
-    ensures { λ r. ⌜ WordsMade (record { rcvOrder = now («rcv_order» .entry); rcvRecords = now («rcv_records» .entry); rcvRoom = now («rcv_room» .entry); sndOrder = now («snd_order» .entry); sndRecords = now («snd_records» .entry); sndRoom = now («snd_room» .entry); acks = now (acks .entry); waiting = now (waiting .entry) }) (freshStream conv) (now (words .entry)) r (now (words .exit)) ⌝ }
+    ensures { λ r. ⌜ WordsMade (record { rcv = lists (now («rcv_records» .entry)) (now («rcv_room» .entry)); snd = lists (now («snd_records» .entry)) (now («snd_room» .entry)); acks = now (acks .entry); waiting = now (waiting .entry) }) (freshStream conv) (now (words .entry)) r (now (words .exit)) ⌝ }
 {
     host::make::new_stream(
         words,
         conv,
-        rcv_order,
         rcv_records,
         rcv_room,
-        snd_order,
         snd_records,
         snd_room,
         acks,

@@ -5,9 +5,7 @@ ghost use Rattle.serial.specs.Wrap.{timediff};
 ghost use Rattle.wire.specs.Header.{convOf, snOf, headerAt, headerBytes};
 ghost use Rattle.wire.specs.Helpers.{got, putOf, numberOfPut, withConv};
 ghost use Rattle.estimator.specs.Estimate.{measured};
-ghost use Rattle.slots.specs.Pool.{lists};
 ghost use Rattle.kcp_c.specs.Told.{Told};
-ghost use Rattle.kcp_c.specs.Pools.{PoolTold};
 ghost use Rattle.kcp_c.specs.Numbers.{header, headerNumbers, estimator, estimatorNumbers};
 use estimator::Estimator;
 use wire::Header;
@@ -15,8 +13,8 @@ use wire::Number;
 use wire::Put;
 
 pub mod calls; // the calls over a block's words
-pub mod receiver; // those that are handed the receive pool
-pub mod sender; // those that are handed the send pool
+pub mod receiver; // those that are handed the receive memory
+pub mod sender; // those that are handed the send memory
 pub mod arrivals; // one datagram
 
 // timediff(a, b).
@@ -42,7 +40,7 @@ pub extern "C" fn kcp_get_conv(buf: &[u8], conv: &mut u32) -> u32
 {
     let answer = wire::get_conv(buf);
     let Number::Is(n) = answer else {
-        return 16;
+        return wire::SHORT_HEADER;
     };
     *conv = n;
     0
@@ -55,7 +53,7 @@ pub extern "C" fn kcp_get_sn(buf: &[u8], sn: &mut u32) -> u32
 {
     let answer = wire::get_sn(buf);
     let Number::Is(n) = answer else {
-        return 16;
+        return wire::SHORT_HEADER;
     };
     *sn = n;
     0
@@ -68,7 +66,7 @@ pub extern "C" fn kcp_set_conv(buf: &mut [u8], conv: u32) -> u32
 {
     let answer = wire::set_conv(buf, conv);
     let Put::Done = answer else {
-        return 16;
+        return wire::SHORT_HEADER;
     };
     0
 }
@@ -132,28 +130,4 @@ pub extern "C" fn kcp_measured(e: &mut [u32; 4], rtt: u32, interval: u32)
     };
     let r = before.measured(rtt, interval);
     *e = [r.srtt, r.rttval, r.rto, r.minrto];
-}
-
-// Whether a pool of at most 1,024 slots, with records of at most 64 numbers, is well formed with n slots in use: 0, or 15.
-#[no_mangle]
-pub extern "C" fn kcp_pool_test(
-    order: &[u32],
-    records: &[u32],
-    room: &[u8],
-    width: usize,
-    n: usize,
-) -> u32
-    ensures { λ r. ⌜ PoolTold width n (lists (now (order .entry)) (now (records .entry)) (now (room .entry))) r ⌝ }
-{
-    if order.len() > 1024 {
-        return 15;
-    }
-    if width > 64 {
-        return 15;
-    }
-    let mut marks = [0u8; 1024];
-    if slots::well_formed(order, records, room, width, n, &mut marks) {
-        return 0;
-    }
-    15
 }
