@@ -1,5 +1,7 @@
 use native.Mathlib.Omega.{arith}
 use mathlib.Core.Path.{refl}
+use mir.Syntax.{w32}
+use mir.Facts.{toZ-ofZ}
 use Rattle.block.specs.Setters.{setNodelay}
 use Rattle.words.specs.Words.{blockOf, withNodelayWords}
 use Rattle.host.proofs.Words.{set-refused, set-done, held-length, nodelay-words, nodelay-put}
@@ -46,8 +48,9 @@ returns-2 : tie.Need-returns-2
 returns-2 c =
     let a = c .before .before .before .before .before .before .before .before .before .before .before .args in
     let l = a .words .now in
+    let f = c .before .before .before .before .before .before .before .before .before .before .before .fits in
     set-done (λ k. setNodelay k (a .nodelay) (a .interval) (a .resend) (a .nc)) 0 l (λ m. withNodelayWords (setNodelay (blockOf l) (a .nodelay) (a .interval) (a .resend) (a .nc)) m) (c .before .before .before .before .before .before .before .before .is-block .ensures) (c .before .before .before .before .before .before .before .if1 .left) (λ i. omega (arith, c .before .before .before .before .before .before .before .before .before .before .slice-known .given i)) (nodelay-words (blockOf l) (a .nodelay) (a .interval) (a .resend) (a .nc)) refl
-    (nodelay-put l (a .nodelay) (a .interval) (a .resend) (a .nc) (c .before .before .put-nodelay .ensures) (c .before .before .before .before .set-nodelay .ensures) (c .before .before .before .before .before .block .ensures))
+    (nodelay-put l (a .nodelay) (a .interval) (a .resend) (a .nc) (c .before .before .put-nodelay .ensures) (rw (toZ-ofZ {w = w32} (f .interval), toZ-ofZ {w = w32} (f .resend)) at (c .before .before .before .before .set-nodelay .ensures)) (c .before .before .before .before .before .block .ensures))
 
 pub set-nodelay-spec : {M : Type 1} → statement M
 set-nodelay-spec =
