@@ -3,6 +3,7 @@ use Prim.Native.Nat.{ℕ, _≤_}
 use mathlib.Core.Path.{_≡_}
 use mathlib.Core.Bool.{Bool, _&&_}
 use lib.Dec.{eqb}
+use Rattle.ring.specs.Lists.{Lists}
 use Rattle.replay.specs.declared.table.Answer.{Answer}
 use Rattle.replay.specs.declared.table.Numbers.{Numbers}
 use Rattle.replay.specs.declared.table.Step.{Step}
@@ -20,8 +21,8 @@ sameNumbers a b =
     && (eqb (a .held) (b .held) && (eqb (a .acks) (b .acks) && eqb (a .probe) (b .probe)))
 
 -- all ten numbers
-abbrev pub agreesWith : Made → Step → Bool
-agreesWith m s = sameAnswer (m .answer) (s .answer) && sameNumbers (numbersOf (m .block)) (s .numbers)
+abbrev pub agreesWith : Made → Step → Lists → Bool
+agreesWith m s l = sameAnswer (m .answer) (s .answer) && sameNumbers (numbersOf (m .block) l) (s .numbers)
 
 -- no more agreed than were made; and all agreed exactly when none is named as the first that did not
 pub record Fair (t : Tally) : Type 0 where

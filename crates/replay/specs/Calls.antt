@@ -1,6 +1,9 @@
 -- What the port's calls leave, as the numbers of the sample. Assumes nothing.
 use Prim.Native.Nat.{ℕ}
 use lib.ListN.{take}
+use Rattle.serial.specs.Branch.{pick}
+use Rattle.ring.specs.Lists.{Lists}
+use Rattle.ring.specs.Counting.{count}
 use Rattle.block.specs.declared.Kcp.{Kcp}
 use Rattle.block.specs.declared.set.Set.{Set}
 use Rattle.wire.specs.declared.Header.{Header}
@@ -8,6 +11,7 @@ use Rattle.block.specs.Refusals.{numberOfAnswer, numberOfBytes}
 use Rattle.receive.specs.declared.Length.{Length}
 use Rattle.receive.specs.declared.Length.the-variants.{Is, Refused}
 use Rattle.receive.specs.Memory.{numberOfLength}
+use Rattle.receive.specs.Fits.{receiveFits}
 use Rattle.input.specs.Datagram.{ReadOut}
 use Rattle.kcp.specs.Calls.{RecvOut}
 use Rattle.replay.specs.declared.table.Numbers.{Numbers}
@@ -48,13 +52,17 @@ abbrev pub madeByInput : ReadOut → Made
 madeByInput o =
     record { block = o .block; answer = record { refusal = numberOfBytes (o .answer); length = 0; sum = 0; skipped = o .skipped } }
 
-abbrev pub numbersOf : Kcp → Numbers
-numbersOf k =
+-- how many are held, by the words of the ring; a number that no row has where block or memory is not well formed
+unfoldable pub heldIn : Kcp → Lists → ℕ
+heldIn k l = pick (receiveFits k l) (count 65536 (l .records) (k .receiver .ring .start) (k .receiver .ring .queued) (k .receiver .ring .reach)) 4294967295
+
+abbrev pub numbersOf : Kcp → Lists → Numbers
+numbersOf k l =
     record {
       «rcv_nxt» = k .receiver .«rcv_nxt»;
       «rcv_wnd» = k .receiver .«rcv_wnd»;
-      queued = k .receiver .queued;
-      held = k .receiver .held;
+      queued = k .receiver .ring .queued;
+      held = heldIn k l;
       acks = k .acklist .acks;
       probe = k .probe .bits;
     }

@@ -3,13 +3,13 @@ ghost use mathlib.Core.Path.{_≡_};
 ghost use Prim.Native.Nat.{_≤_, _-_};
 ghost use mathlib.Core.List.{_++_};
 ghost use lib.ListN.{length, drop};
-ghost use Rattle.slots.specs.Pool.{lists};
+ghost use Rattle.ring.specs.Lists.{lists};
 ghost use Rattle.receive.specs.Memory.{numberOfLength};
 ghost use Rattle.wire.specs.Header.{headerBytes};
 ghost use Rattle.block.specs.Refusals.{numberOfBytes};
 ghost use Rattle.kcp.specs.Calls.{moveBufOf, peeksizeOf, recvOf, setWndsizeOf};
-ghost use Rattle.kcp.specs.Input.{inputOf};
-ghost use Rattle.replay.specs.Calls.{lengthIn, madeBySet, madeByLength, madeByRecv, madeByInput, pushHeader, numbersOf};
+ghost use Rattle.kcp_input.specs.Input.{inputOf};
+ghost use Rattle.replay.specs.Calls.{lengthIn, madeBySet, madeByLength, madeByRecv, madeByInput, pushHeader, heldIn, numbersOf};
 ghost use Rattle.replay.specs.Payload.{rising};
 use crate::low8;
 use crate::payload::checksum;
@@ -82,35 +82,34 @@ fn made_by_set(set: Set) -> Made
     }
 }
 
-fn move_buf(block: Kcp, order: &[u32], records: &[u32], room: &[u8]) -> Made
-    ensures { λ r. ⌜ r ≡ madeBySet (moveBufOf block (lists (now (order .entry)) (now (records .entry)) (now (room .entry)))) ⌝ }
+fn move_buf(block: Kcp, records: &[u32], room: &[u8]) -> Made
+    ensures { λ r. ⌜ r ≡ madeBySet (moveBufOf block (lists (now (records .entry)) (now (room .entry)))) ⌝ }
 {
-    made_by_set(kcp::move_buf(block, order, records, room))
+    made_by_set(kcp::move_buf(block, records, room))
 }
 
 fn set_wndsize(
     block: Kcp,
     sndwnd: u16,
     rcvwnd: u16,
-    order: &[u32],
     records: &[u32],
     room: &[u8],
 ) -> Made
-    ensures { λ r. ⌜ r ≡ madeBySet (setWndsizeOf block (lists (now (order .entry)) (now (records .entry)) (now (room .entry))) sndwnd rcvwnd) ⌝ }
+    ensures { λ r. ⌜ r ≡ madeBySet (setWndsizeOf block (lists (now (records .entry)) (now (room .entry))) sndwnd rcvwnd) ⌝ }
 {
-    made_by_set(kcp::set_wndsize(block, sndwnd, rcvwnd, order, records, room))
+    made_by_set(kcp::set_wndsize(block, sndwnd, rcvwnd, records, room))
 }
 
-fn peeksize(block: Kcp, order: &[u32], records: &[u32], room: &[u8]) -> Made
-    ensures { λ r. ⌜ r ≡ madeByLength block (peeksizeOf block (lists (now (order .entry)) (now (records .entry)) (now (room .entry)))) 0 ⌝ }
+fn peeksize(block: Kcp, records: &[u32], room: &[u8]) -> Made
+    ensures { λ r. ⌜ r ≡ madeByLength block (peeksizeOf block (lists (now (records .entry)) (now (room .entry)))) 0 ⌝ }
 {
-    made_by_length(block, kcp::peeksize(block, order, records, room), 0)
+    made_by_length(block, kcp::peeksize(block, records, room), 0)
 }
 
-fn recv(block: Kcp, order: &mut [u32], records: &[u32], room: &[u8], buf: &mut [u8]) -> Made
-    ensures { λ r. ⌜ r ≡ madeByRecv (recvOf block (lists (now (order .entry)) (now (records .entry)) (now (room .entry))) (now (buf .entry))) ⌝ }
+fn recv(block: Kcp, records: &[u32], room: &[u8], buf: &mut [u8]) -> Made
+    ensures { λ r. ⌜ r ≡ madeByRecv (recvOf block (lists (now (records .entry)) (now (room .entry))) (now (buf .entry))) ⌝ }
 {
-    let received = kcp::recv(block, order, records, room, buf);
+    let received = kcp::recv(block, records, room, buf);
     let after = received.block;
     let answer = received.answer;
     made_by_length(after, answer, checksum(buf, length_of(answer)))
@@ -128,24 +127,20 @@ fn number_of_bytes(answer: Bytes) -> u32
 
 fn input(
     block: Kcp,
-    order: &mut [u32],
     records: &mut [u32],
     room: &mut [u8],
-    snd_order: &mut [u32],
     snd_records: &mut [u32],
     snd_room: &[u8],
     acks: &mut [u32],
     waiting: &[u8],
     datagram: &[u8],
 ) -> Made
-    ensures { λ r. ⌜ r ≡ madeByInput (inputOf block (lists (now (order .entry)) (now (records .entry)) (now (room .entry))) (now (acks .entry)) (now (waiting .entry)) (lists (now («snd_order» .entry)) (now («snd_records» .entry)) (now («snd_room» .entry))) (now (datagram .entry))) ⌝ }
+    ensures { λ r. ⌜ r ≡ madeByInput (inputOf block (lists (now (records .entry)) (now (room .entry))) (now (acks .entry)) (now (waiting .entry)) (lists (now («snd_records» .entry)) (now («snd_room» .entry))) (now (datagram .entry))) ⌝ }
 {
-    let out = kcp::input(
+    let out = kcp_input::input(
         block,
-        order,
         records,
         room,
-        snd_order,
         snd_records,
         snd_room,
         acks,
@@ -167,6 +162,9 @@ fn input(
 
 // What is put down for a step that is none of the sample's: no refusal has this number, so that it agrees with no row.
 const UNKNOWN: u32 = 4294967295;
+
+// The least word of a segment.
+const SEGMENT: u32 = 65536;
 
 fn unknown(block: Kcp) -> Made
     ensures { λ r. ⌜ r .answer .refusal ≡ 4294967295 ⌝ }
@@ -211,10 +209,8 @@ fn put_segment(datagram: &mut [u8], header: Header, byte: u8)
 // A push of the sample as a datagram, made in `part`, which is as long.
 fn push_in(
     block: Kcp,
-    order: &mut [u32],
     records: &mut [u32],
     room: &mut [u8],
-    snd_order: &mut [u32],
     snd_records: &mut [u32],
     snd_room: &[u8],
     acks: &mut [u32],
@@ -224,15 +220,13 @@ fn push_in(
     part: &mut [u8],
 ) -> Made
     requires { ⌜ 24 ≤ length (now part) ⌝ }
-    ensures { λ r. ⌜ r ≡ madeByInput (inputOf block (lists (now (order .entry)) (now (records .entry)) (now (room .entry))) (now (acks .entry)) (now (waiting .entry)) (lists (now («snd_order» .entry)) (now («snd_records» .entry)) (now («snd_room» .entry))) (headerBytes header ++ rising byte (length (now (part .entry)) - 24))) ⌝ }
+    ensures { λ r. ⌜ r ≡ madeByInput (inputOf block (lists (now (records .entry)) (now (room .entry))) (now (acks .entry)) (now (waiting .entry)) (lists (now («snd_records» .entry)) (now («snd_room» .entry))) (headerBytes header ++ rising byte (length (now (part .entry)) - 24))) ⌝ }
 {
     put_segment(part, header, byte);
     input(
         block,
-        order,
         records,
         room,
-        snd_order,
         snd_records,
         snd_room,
         acks,
@@ -245,10 +239,8 @@ fn push_in(
 fn push_step(
     block: Kcp,
     call: Call,
-    order: &mut [u32],
     records: &mut [u32],
     room: &mut [u8],
-    snd_order: &mut [u32],
     snd_records: &mut [u32],
     snd_room: &[u8],
     acks: &mut [u32],
@@ -268,10 +260,8 @@ fn push_step(
     );
     push_in(
         block,
-        order,
         records,
         room,
-        snd_order,
         snd_records,
         snd_room,
         acks,
@@ -286,7 +276,6 @@ fn push_step(
 fn recv_step(
     block: Kcp,
     call: Call,
-    order: &mut [u32],
     records: &[u32],
     room: &[u8],
     buf: &mut [u8],
@@ -295,17 +284,15 @@ fn recv_step(
     if buf.len() < len {
         return unknown(block);
     }
-    recv(block, order, records, room, &mut buf[..len])
+    recv(block, records, room, &mut buf[..len])
 }
 
 // The call that the step names, by its code.
 pub fn make(
     block: Kcp,
     call: Call,
-    order: &mut [u32],
     records: &mut [u32],
     room: &mut [u8],
-    snd_order: &mut [u32],
     snd_records: &mut [u32],
     snd_room: &[u8],
     acks: &mut [u32],
@@ -317,24 +304,21 @@ pub fn make(
         1 => push_step(
             block,
             call,
-            order,
             records,
             room,
-            snd_order,
             snd_records,
             snd_room,
             acks,
             waiting,
             buf,
         ),
-        2 => recv_step(block, call, order, records, room, buf),
-        3 => peeksize(block, order, records, room),
-        4 => move_buf(block, order, records, room),
+        2 => recv_step(block, call, records, room, buf),
+        3 => peeksize(block, records, room),
+        4 => move_buf(block, records, room),
         5 => set_wndsize(
             block,
             serial::low16(call.first),
             serial::low16(call.second),
-            order,
             records,
             room,
         ),
@@ -342,16 +326,37 @@ pub fn make(
     }
 }
 
-// The receive numbers of the block.
-pub fn numbers(block: Kcp) -> Numbers
-    ensures { λ r. ⌜ r ≡ numbersOf block ⌝ }
+// How many segments are held, by the words of the ring: those in reach that are a segment's. A block or memory that is not well formed holds a number
+// that no row of the sample has.
+fn held_in(block: Kcp, records: &[u32], room: &[u8]) -> u32
+    ensures { λ r. ⌜ r ≡ heldIn block (lists (now (records .entry)) (now (room .entry))) ⌝ }
+{
+    if !receive::fits(block, records, room) {
+        return UNKNOWN;
+    }
+    let ring = block.receiver.ring;
+    let counts = ring::tally(
+        records,
+        ring.start as usize,
+        ring.queued as usize,
+        ring.reach as usize,
+        SEGMENT,
+        SEGMENT,
+    );
+    counts.low
+}
+
+// The receive numbers of the block, and of its ring.
+pub fn numbers(block: Kcp, records: &[u32], room: &[u8]) -> Numbers
+    ensures { λ r. ⌜ r ≡ numbersOf block (lists (now (records .entry)) (now (room .entry))) ⌝ }
 {
     let receiver = block.receiver;
+    let ring = receiver.ring;
     Numbers {
         rcv_nxt: receiver.rcv_nxt,
         rcv_wnd: receiver.rcv_wnd as u32,
-        queued: receiver.queued,
-        held: receiver.held,
+        queued: ring.queued,
+        held: held_in(block, records, room),
         acks: block.acklist.acks,
         probe: block.probe.bits,
     }

@@ -9,6 +9,7 @@ mod agree; // the comparison
 ghost use mathlib.Core.Path.{_≡_};
 ghost use Prim.Native.Nat.{_%_, _*_, _≤_, _<_};
 ghost use lib.ListN.{length};
+ghost use Rattle.ring.specs.Lists.{lists};
 ghost use Rattle.replay.specs.Agree.{Fair, agreesWith};
 use agree::Tally;
 use agree::both;
@@ -41,8 +42,8 @@ fn low8(x: u32) -> u8
 }
 
 // Whether a call left what the step says.
-fn agrees(made: calls::Made, step: table::Step) -> bool
-    ensures { λ r. ⌜ r ≡ agreesWith made step ⌝ }
+fn agrees(made: calls::Made, step: table::Step, records: &[u32], room: &[u8]) -> bool
+    ensures { λ r. ⌜ r ≡ agreesWith made step (lists (now (records .entry)) (now (room .entry))) ⌝ }
 {
     let block = made.block;
     let answer = made.answer;
@@ -50,7 +51,7 @@ fn agrees(made: calls::Made, step: table::Step) -> bool
     let rows = step.numbers;
     both(
         same_answer(answer, told),
-        same_numbers(numbers(block), rows),
+        same_numbers(numbers(block, records, room), rows),
     )
 }
 
@@ -58,10 +59,8 @@ fn agrees(made: calls::Made, step: table::Step) -> bool
 fn run(
     block: Kcp,
     steps: &[u32],
-    order: &mut [u32],
     records: &mut [u32],
     room: &mut [u8],
-    snd_order: &mut [u32],
     snd_records: &mut [u32],
     snd_room: &[u8],
     acks: &mut [u32],
@@ -81,10 +80,8 @@ fn run(
         let made = make(
             block,
             call,
-            order,
             records,
             room,
-            snd_order,
             snd_records,
             snd_room,
             acks,
@@ -92,7 +89,7 @@ fn run(
             buf,
         );
         block = made.block;
-        tally = tally.with(agrees(made, step));
+        tally = tally.with(agrees(made, step, records, room));
         i += 1;
     }
     tally
@@ -144,6 +141,12 @@ fn numbers_1024() -> [u32; 1024]
     [0; 1024]
 }
 
+fn numbers_1152() -> [u32; 1152]
+    ensures { λ r. ⌜ 1152 ≡ length r ⌝ }
+{
+    [0; 1152]
+}
+
 fn buffer() -> [u8; 4096]
     ensures { λ r. ⌜ 4096 ≡ length r ⌝ }
 {
@@ -152,10 +155,8 @@ fn buffer() -> [u8; 4096]
 
 // Makes a fresh block over the memory lent, makes the steps on it, and writes the tally.
 fn play(
-    order: &mut [u32],
     records: &mut [u32],
     room: &mut [u8],
-    snd_order: &mut [u32],
     snd_records: &mut [u32],
     snd_room: &[u8],
     acks: &mut [u32],
@@ -164,10 +165,8 @@ fn play(
 ) {
     let made = Kcp::new(
         1,
-        order,
         records,
         room,
-        snd_order,
         snd_records,
         snd_room,
         acks,
@@ -181,10 +180,8 @@ fn play(
     write_tally(run(
         block,
         &steps,
-        order,
         records,
         room,
-        snd_order,
         snd_records,
         snd_room,
         acks,
@@ -195,20 +192,16 @@ fn play(
 
 // R = 512, since the sample's windows go up to 256; A = 512, since nothing empties the ack list.
 fn main() {
-    let mut order = numbers_512();
-    let mut records = numbers_1024();
+    let mut records = numbers_512();
     let mut room = receive_room();
-    let mut snd_order = [0u32; 128];
-    let mut snd_records = numbers_1024();
+    let mut snd_records = numbers_1152();
     let snd_room = send_room();
     let mut acks = numbers_1024();
     let waiting = [0u8; 1500];
     let mut buf = buffer();
     play(
-        &mut order,
         &mut records,
         &mut room,
-        &mut snd_order,
         &mut snd_records,
         &snd_room,
         &mut acks,

@@ -5,12 +5,12 @@ ghost use Prim.Native.Nat.{_≤_};
 ghost use mathlib.Core.List.{_++_};
 ghost use lib.ListN.{length, getD, drop};
 ghost use Rattle.serial.specs.Branch.{pick};
-ghost use Rattle.slots.specs.Pool.{lists};
+ghost use Rattle.ring.specs.Lists.{lists};
 ghost use Rattle.wire.specs.Header.{headerBytes};
 ghost use Rattle.block.specs.Refusals.{numberOfBytes, valuesOfBytes};
 ghost use Rattle.block.specs.Sizes.{mtuSize};
 ghost use Rattle.kcp.specs.Calls.{wndsizeNumber};
-ghost use Rattle.kcp.specs.Input.{inputOf, inputNumber};
+ghost use Rattle.kcp_input.specs.Input.{inputOf, inputNumber};
 use block::Kcp;
 use block::make::Made;
 use block::refusal::Bytes;
@@ -35,13 +35,12 @@ fn wndsize_number(
     block: Kcp,
     sndwnd: u16,
     rcvwnd: u16,
-    order: &[u32],
     records: &[u32],
     room: &[u8],
 ) -> u32
-    ensures { λ r. ⌜ r ≡ wndsizeNumber block (lists (now (order .entry)) (now (records .entry)) (now (room .entry))) rcvwnd ⌝ }
+    ensures { λ r. ⌜ r ≡ wndsizeNumber block (lists (now (records .entry)) (now (room .entry))) rcvwnd ⌝ }
 {
-    let set = kcp::set_wndsize(block, sndwnd, rcvwnd, order, records, room);
+    let set = kcp::set_wndsize(block, sndwnd, rcvwnd, records, room);
     let answer = set.answer;
     answer.number()
 }
@@ -58,25 +57,21 @@ fn mtu_number(block: Kcp, mtu: usize) -> u32
 // What input answers.
 fn heard(
     block: Kcp,
-    order: &mut [u32],
     records: &mut [u32],
     room: &mut [u8],
-    snd_order: &mut [u32],
     snd_records: &mut [u32],
     snd_room: &[u8],
     acks: &mut [u32],
     waiting: &[u8],
     datagram: &[u8],
 ) -> Bytes
-    ensures { λ r. ⌜ r ≡ inputOf block (lists (now (order .entry)) (now (records .entry)) (now (room .entry))) (now (acks .entry)) (now (waiting .entry)) (lists (now («snd_order» .entry)) (now («snd_records» .entry)) (now («snd_room» .entry))) (now (datagram .entry)) .answer ⌝ }
-    ensures { λ r. ⌜ numberOfBytes r ≡ inputNumber block (lists (now (order .entry)) (now (records .entry)) (now (room .entry))) (now (acks .entry)) (now (waiting .entry)) (lists (now («snd_order» .entry)) (now («snd_records» .entry)) (now («snd_room» .entry))) (now (datagram .entry)) ⌝ }
+    ensures { λ r. ⌜ r ≡ inputOf block (lists (now (records .entry)) (now (room .entry))) (now (acks .entry)) (now (waiting .entry)) (lists (now («snd_records» .entry)) (now («snd_room» .entry))) (now (datagram .entry)) .answer ⌝ }
+    ensures { λ r. ⌜ numberOfBytes r ≡ inputNumber block (lists (now (records .entry)) (now (room .entry))) (now (acks .entry)) (now (waiting .entry)) (lists (now («snd_records» .entry)) (now («snd_room» .entry))) (now (datagram .entry)) ⌝ }
 {
-    let out = kcp::input(
+    let out = kcp_input::input(
         block,
-        order,
         records,
         room,
-        snd_order,
         snd_records,
         snd_room,
         acks,
@@ -116,24 +111,22 @@ fn put_header(datagram: &mut [u8], header: Header)
 }
 
 // "R = 256: rcvwnd 128 passes, 129 gets 14."
-fn window_rows(block: Kcp, order: &[u32], records: &[u32], room: &[u8]) {
+fn window_rows(block: Kcp, records: &[u32], room: &[u8]) {
     write_row(
         b"R = 256, set_wndsize(0, 128)",
-        wndsize_number(block, 0, 128, order, records, room),
+        wndsize_number(block, 0, 128, records, room),
     );
     write_row(
         b"R = 256, set_wndsize(0, 129)",
-        wndsize_number(block, 0, 129, order, records, room),
+        wndsize_number(block, 0, 129, records, room),
     );
 }
 
 // "Input of 1,500 bytes is read, 1,501 gets 11": the first 1,500 bytes of the datagram, and all 1,501.
 fn input_rows(
     block: Kcp,
-    order: &mut [u32],
     records: &mut [u32],
     room: &mut [u8],
-    snd_order: &mut [u32],
     snd_records: &mut [u32],
     snd_room: &[u8],
     acks: &mut [u32],
@@ -144,10 +137,8 @@ fn input_rows(
 {
     let read = heard(
         block,
-        order,
         records,
         room,
-        snd_order,
         snd_records,
         snd_room,
         acks,
@@ -158,10 +149,8 @@ fn input_rows(
     write_line(b"its bytes consumed", bytes_count(read) as u64);
     let longer = heard(
         block,
-        order,
         records,
         room,
-        snd_order,
         snd_records,
         snd_room,
         acks,
@@ -221,10 +210,8 @@ fn datagram() -> [u8; 1501]
 
 // Makes a fresh block over the memory lent, and writes the rows.
 fn rows(
-    order: &mut [u32],
     records: &mut [u32],
     room: &mut [u8],
-    snd_order: &mut [u32],
     snd_records: &mut [u32],
     snd_room: &[u8],
     acks: &mut [u32],
@@ -232,10 +219,8 @@ fn rows(
 ) {
     let made = Kcp::new(
         1,
-        order,
         records,
         room,
-        snd_order,
         snd_records,
         snd_room,
         acks,
@@ -245,13 +230,11 @@ fn rows(
         io::write_all(STDOUT_FILENO, b"no block\n");
         return;
     };
-    window_rows(block, order, records, room);
+    window_rows(block, records, room);
     input_rows(
         block,
-        order,
         records,
         room,
-        snd_order,
         snd_records,
         snd_room,
         acks,
@@ -263,19 +246,15 @@ fn rows(
 
 // R = 256, P = 128 and A = 128.
 fn main() {
-    let mut order = [0u32; 256];
-    let mut records = [0u32; 512];
+    let mut records = [0u32; 256];
     let mut room = receive_room();
-    let mut snd_order = [0u32; 128];
-    let mut snd_records = [0u32; 1024];
+    let mut snd_records = [0u32; 1152];
     let snd_room = send_room();
     let mut acks = [0u32; 256];
     let waiting = [0u8; 1500];
     rows(
-        &mut order,
         &mut records,
         &mut room,
-        &mut snd_order,
         &mut snd_records,
         &snd_room,
         &mut acks,

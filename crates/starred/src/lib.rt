@@ -1,0 +1,1 @@
+// The starred worked values of 01, one table under one statement (proofs/Table). No code.
