@@ -1,78 +1,93 @@
--- A move and a recv change no number of the block but those that `write_received` writes. Assumes nothing.
+-- The words that each call writes in the words of a block are those of the block that it leaves, and what stays is as it was. Assumes nothing.
 use Prim.Native.Nat.{ℕ}
-use mathlib.Core.Path.{_≡_, refl}
+use mathlib.Core.Path.{_≡_, refl, sym, ap, _∙_}
 use mathlib.Core.Bool.{Bool, true, false}
 use mathlib.Core.List.{List}
-use lib.ListN.{length}
+use lib.ListN.{length, set}
+use lib.Dec.{ltb}
 use Rattle.serial.specs.Branch.{pick}
-use Rattle.slots.specs.Pool.{Lists}
+use Rattle.ring.specs.Lists.{Lists}
+use Rattle.block.specs.declared.congestion.Congestion.{Congestion}
 use Rattle.block.specs.declared.probe.Probe.{Probe}
 use Rattle.block.specs.declared.receiver.Receiver.{Receiver}
 use Rattle.block.specs.declared.Kcp.{Kcp}
 use Rattle.block.specs.declared.set.Set.{Set}
-use Rattle.block.specs.Parts.{withReceiver, withProbe}
-use Rattle.words.specs.Words.{withReceived}
-use Rattle.receiving.specs.Rules.{Answer, refused, gives, tells}
+use Rattle.block.specs.declared.refusal.Refusal.{Refusal}
+use Rattle.block.specs.Parts.{withCongestion, withReceiver, withProbe}
+use Rattle.words.specs.Words.{wordsOf, withRcvWords, withWindows}
+use Rattle.receiving.specs.Rules.{Answer, empty, expecting, longer, gives, tells, wanted, tooLarge}
+use Rattle.receive.specs.declared.Length.the-variants.{Is, Refused}
 use Rattle.receive.specs.Fits.{receiveFits}
-use Rattle.receive.specs.Memory.{Side, movedBy, moveBufAt, movedAt, answerAt, messageAt, freedAt, handedAt, recvAt, told, probeAt}
-use Rattle.kcp.specs.Calls.{moveBufOf, RecvOut, recvOf}
+use Rattle.receive.specs.Memory.{moveBufAt, answerAt, freedAt, handedAt, withTell, probeAt, widenedAt, sendWindow, receiveWindow, windowsAt}
+use Rattle.kcp.specs.Calls.{moveBufOf, RecvOut, outBy, recvOf, setWndsizeOf}
 
--- ---- the parts
-
--- the windows are those of r
-record Keeps (r x : Receiver) : Type 0 where
-  window : x .«rcv_wnd» ≡ r .«rcv_wnd»
-  largest : x .largest ≡ r .largest
-
-keeps-move : (r : Receiver) (p : Lists) → Keeps r (moveBufAt r p)
-unfolding moveBufAt movedBy
-keeps-move r p = record { window = refl; largest = refl }
-
-keeps-moved : (r : Receiver) (x : Side) → Keeps r (x .receiver) → Keeps r (movedAt x .receiver)
-unfolding movedAt moveBufAt movedBy
-keeps-moved r x h = record { window = h .window; largest = h .largest }
-
-keeps-handed : (a : Answer) (r : Receiver) (p : Lists) → Keeps r (handedAt a r p .receiver)
-unfolding handedAt freedAt
-keeps-handed (refused n) r p = record { window = refl; largest = refl }
-keeps-handed (gives n) r p = keeps-moved r (freedAt (messageAt r p) r p) (record { window = refl; largest = refl })
-
--- a probe with its times
-record Times (p x : Probe) : Type 0 where
-  at : x .«ts_probe» ≡ p .«ts_probe»
-  wait : x .«probe_wait» ≡ p .«probe_wait»
-
-keeps-times : (t : Bool) (p : Probe) → Times p (pick t (told p) p)
+-- what holds of either side holds of the choice
+by-pick : {A : Type 0} (P : A → Type 0) (t : Bool) (a b : A) → P a → P b → P (pick t a b)
 unfolding pick
-keeps-times true p = record { at = refl; wait = refl }
-keeps-times false p = record { at = refl; wait = refl }
+by-pick P true a b p q = p
+by-pick P false a b p q = q
 
-keeps-probe : (r : Receiver) (n : ℕ) (p : Probe) → Times p (probeAt r n p)
-unfolding probeAt
-keeps-probe r n p = keeps-times (tells (r .«rcv_wnd») (r .queued) n) p
+module _ (k : Kcp) (l : Lists) where
+  -- `move_buf` writes what it may change of the receive side
+  abbrev Moved : Kcp → Type 0
+  Moved b = withRcvWords (b .receiver) (wordsOf k) ≡ wordsOf b
 
--- ---- the block
+  pub move-words : Moved (moveBufOf k l .block)
+  unfolding moveBufOf moveBufAt withRcvWords wordsOf
+  move-words = by-pick (λ (s : Set). Moved (s .block)) (receiveFits k l) _ _ refl refl
 
-changed : (k : Kcp) (r : Receiver) (p : Probe) → Keeps (k .receiver) r → Times (k .probe) p
-    → withProbe (withReceiver k r) p ≡ withReceived k (withProbe (withReceiver k r) p)
-changed k r p h t = rw (← h .window, ← h .largest, ← t .at, ← t .wait)
+  -- `set_wndsize` the windows
+  abbrev Windowed : Kcp → Type 0
+  Windowed b = withWindows b (wordsOf k) ≡ wordsOf b
 
--- an outcome by a test
-either : (k : Kcp) {A : Type 0} (f : A → Kcp) (t : Bool) (a b : A) → f a ≡ withReceived k (f a) → f b ≡ withReceived k (f b) → f (pick t a b) ≡ withReceived k (f (pick t a b))
-unfolding pick
-either k f true a b p q = p
-either k f false a b p q = q
+  abbrev sends : ℕ → Kcp
+  sends x = let c = k .congestion in withCongestion k (record { «snd_wnd» = x; «rmt_wnd» = c .«rmt_wnd»; cwnd = c .cwnd; ssthresh = c .ssthresh; incr = c .incr })
 
-pub move-changes : (k : Kcp) (p : Lists) → moveBufOf k p .block ≡ withReceived k (moveBufOf k p .block)
-unfolding moveBufOf
-move-changes k p =
-    either k (λ (s : Set). s .block) (receiveFits k p) _ _ (changed k (moveBufAt (k .receiver) p) (k .probe) (keeps-move (k .receiver) p) (record { at = refl; wait = refl })) refl
+  by-window : (x rcvwnd : ℕ) → Windowed (withReceiver (sends x) (receiveWindow rcvwnd (k .receiver)))
+  unfolding receiveWindow widenedAt withWindows wordsOf
+  by-window x rcvwnd =
+      by-pick (λ (r : Receiver). Windowed (withReceiver (sends x) r)) (ltb 0 rcvwnd) (widenedAt (wanted rcvwnd) (k .receiver)) (k .receiver) refl refl
 
-pub recv-changes : (k : Kcp) (p : Lists) (buf : List ℕ) → recvOf k p buf .block ≡ withReceived k (recvOf k p buf .block)
-unfolding recvOf recvAt
-recv-changes k p buf =
-    either k (λ (o : RecvOut). o .block) (receiveFits k p) _ _
-    (changed k (recvAt (length buf) (k .receiver) p .receiver) (probeAt (k .receiver) (recvAt (length buf) (k .receiver) p .receiver .queued) (k .probe))
-    (keeps-handed (answerAt (length buf) (k .receiver) p) (k .receiver) p)
-    (keeps-probe (k .receiver) (recvAt (length buf) (k .receiver) p .receiver .queued) (k .probe)))
-    refl
+  pub window-words : (sndwnd rcvwnd : ℕ) → Windowed (setWndsizeOf k l sndwnd rcvwnd .block)
+  unfolding setWndsizeOf windowsAt sendWindow withWindows wordsOf
+  window-words sndwnd rcvwnd =
+      by-pick (λ (s : Set). Windowed (s .block)) (receiveFits k l) _ _
+      (by-pick (λ (s : Set). Windowed (s .block)) (tooLarge (length (l .records)) rcvwnd) _ _ refl
+      (by-pick (λ (c : Congestion). Windowed (withReceiver (withCongestion k c) (receiveWindow rcvwnd (k .receiver)))) (ltb 0 sndwnd) (sends sndwnd .congestion) (k .congestion)
+      (by-window sndwnd rcvwnd) (by-window (k .congestion .«snd_wnd») rcvwnd)))
+      refl
+
+  module _ (buf : List ℕ) where
+    -- recv what it may change of the receive side, and the bits of the probe
+    abbrev Handed : Kcp → Type 0
+    Handed b = set (withRcvWords (b .receiver) (wordsOf k)) 15 (b .probe .bits) ≡ wordsOf b
+
+    by-probe : (q : ℕ) → Handed (withProbe (withReceiver k (handedAt (k .receiver) (l .records))) (probeAt (k .receiver) q (k .probe)))
+    unfolding handedAt moveBufAt freedAt probeAt withRcvWords wordsOf
+    by-probe q =
+        by-pick (λ (p : Probe). Handed (withProbe (withReceiver k (handedAt (k .receiver) (l .records))) p)) (tells (k .receiver .«rcv_wnd») (k .receiver .ring .queued) q) (withTell (k .probe)) (k .probe)
+        refl refl
+
+    by-words : (a : Answer) → Handed (outBy a k l buf .block)
+    unfolding outBy withRcvWords wordsOf
+    by-words empty = refl
+    by-words expecting = refl
+    by-words longer = refl
+    by-words (gives n) = by-probe (handedAt (k .receiver) (l .records) .ring .queued)
+
+    pub recv-words : Handed (recvOf k l buf .block)
+    unfolding recvOf withRcvWords wordsOf
+    recv-words = by-pick (λ (o : RecvOut). Handed (o .block)) (receiveFits k l) _ _ (by-words (answerAt (length buf) (k .receiver) (l .records))) refl
+
+    -- a refused recv leaves the block
+    by-refused : (a : Answer) {why : Refusal} → outBy a k l buf .answer ≡ Refused why → outBy a k l buf .block ≡ k
+    unfolding outBy
+    by-refused empty e = refl
+    by-refused expecting e = refl
+    by-refused longer e = refl
+    by-refused (gives n) e = cc
+
+    pub recv-refused : {why : Refusal} → recvOf k l buf .answer ≡ Refused why → recvOf k l buf .block ≡ k
+    unfolding recvOf
+    recv-refused {why} =
+        by-pick (λ (o : RecvOut). o .answer ≡ Refused why → o .block ≡ k) (receiveFits k l) _ _ (by-refused (answerAt (length buf) (k .receiver) (l .records))) (λ e. refl)

@@ -1,7 +1,7 @@
 -- `host_receive::move_buf` meets its contract: the law of words that are no block, and of those that are. Assumes nothing.
 use native.Mathlib.Omega.{arith}
-use Rattle.words.proofs.Reading.{block-length, block-needs}
-use Rattle.host_receive.proofs.Laws.{is-held, called-none, moved}
+use Rattle.ring.specs.Lists.{lists}
+use Rattle.host_receive.proofs.Laws.{called-none, held-length, moved}
 use borrow.Author.Needs.{needs}
 use Rattle.host_receive.proofs.move_buf.Statement.{statement}
 use Rattle.host_receive.proofs.move_buf.Tie as tie
@@ -16,13 +16,13 @@ returns : tie.Need-returns
 returns c = called-none _ (c .before .is-block .ensures) (c .if1 .taken) _
 
 block-requires : tie.Need-block-requires
-block-requires c κs = block-needs _ (is-held _ (c .before .before .is-block .ensures) (c .before .if1 .left))
+block-requires c κs = held-length _ (c .before .before .is-block .ensures) (c .before .if1 .left)
 
 move-buf-requires : tie.Need-move-buf-requires
 move-buf-requires c κs = search needs
 
-write-received-requires : tie.Need-write-received-requires
-write-received-requires c κs = block-length _ (is-held _ (c .before .before .before .before .before .is-block .ensures) (c .before .before .before .before .if1 .left))
+put-receiver-requires : tie.Need-put-receiver-requires
+put-receiver-requires c κs = held-length _ (c .before .before .before .before .before .before .is-block .ensures) (c .before .before .before .before .before .if1 .left)
 
 number-requires : tie.Need-number-requires
 number-requires c κs = search needs
@@ -31,7 +31,9 @@ same-length-2 : tie.Need-same-length-2
 same-length-2 c = search needs
 
 returns-2 : tie.Need-returns-2
-returns-2 c = moved _ (c .before .before .before .before .before .before .before .before .before .is-block .ensures) (c .before .before .before .before .before .before .before .before .if1 .left) (c .before .before .before .before .before .before .block .ensures) (λ i. omega (arith, c .before .before .before .before .before .before .before .before .before .before .before .before .before .before .slice-known .given i)) _ (c .before .before .before .before .before .move-buf .ensures .is) (c .before .before .before .write-received .ensures) (c .number .ensures)
+returns-2 c =
+    let a = c .before .before .before .before .before .before .before .before .before .before .before .before .before .before .before .args in
+    moved _ (c .before .before .before .before .before .before .before .before .before .before .is-block .ensures) (c .before .before .before .before .before .before .before .before .before .if1 .left) (c .before .before .before .before .before .before .before .block .ensures) (λ i. omega (arith, c .before .before .before .before .before .before .before .before .before .before .before .before .before .before .slice-known .given i)) (lists (a .records .now) (a .room .now)) _ (c .before .before .before .before .before .before .move-buf .ensures .is) (c .before .before .before .put-receiver .ensures) (c .number .ensures)
 
 pub move-buf-spec : {M : Type 1} → statement M
 move-buf-spec =
@@ -42,7 +44,7 @@ move-buf-spec =
     returns
     block-requires
     move-buf-requires
-    write-received-requires
+    put-receiver-requires
     number-requires
     same-length-2
     returns-2)

@@ -1,7 +1,6 @@
 -- `host_receive::peeksize` meets its contract: the law of words that are no block, and of those that are. Assumes nothing.
-use Rattle.slots.specs.Pool.{lists}
-use Rattle.words.proofs.Reading.{block-needs}
-use Rattle.host_receive.proofs.Laws.{is-held, peeked-none, peeked}
+use Rattle.ring.specs.Lists.{lists}
+use Rattle.host_receive.proofs.Laws.{peeked-none, held-length, peeked}
 use borrow.Author.Needs.{needs}
 use Rattle.host_receive.proofs.peeksize.Statement.{statement}
 use Rattle.host_receive.proofs.peeksize.Tie as tie
@@ -11,12 +10,11 @@ is-block-requires c κs = search needs
 
 returns : tie.Need-returns
 returns c =
-    let a = c .before .before .before .before .before .before .args in
-    let p = lists (a .order .now) (a .records .now) (a .room .now) in
-    peeked-none _ (c .before .is-block .ensures) (c .if1 .taken) p (a .length .now)
+    let a = c .before .before .before .before .before .args in
+    peeked-none _ (c .before .is-block .ensures) (c .if1 .taken) (lists (a .records .now) (a .room .now)) (a .length .now)
 
 block-requires : tie.Need-block-requires
-block-requires c κs = block-needs _ (is-held _ (c .before .is-block .ensures) (c .if1 .left))
+block-requires c κs = held-length _ (c .before .is-block .ensures) (c .if1 .left)
 
 peeksize-requires : tie.Need-peeksize-requires
 peeksize-requires c κs = search needs
@@ -29,9 +27,8 @@ number-of-requires c κs = search needs
 
 returns-2 : tie.Need-returns-2
 returns-2 c =
-    let a = c .before .before .before .before .before .before .before .before .before .before .before .args in
-    let p = lists (a .order .now) (a .records .now) (a .room .now) in
-    peeked _ (c .before .before .before .before .before .before .is-block .ensures) (c .before .before .before .before .before .if1 .left) (c .before .before .before .before .block .ensures) p (a .length .now) (c .before .before .before .peeksize .ensures .is) (c .number-of .ensures) (c .before .length-in .ensures)
+    let a = c .before .before .before .before .before .before .before .before .before .before .args in
+    peeked _ (c .before .before .before .before .before .before .is-block .ensures) (c .before .before .before .before .before .if1 .left) (c .before .before .before .before .block .ensures) (lists (a .records .now) (a .room .now)) (a .length .now) (c .before .before .before .peeksize .ensures .is) (c .number-of .ensures) (c .before .length-in .ensures)
 
 pub peeksize-spec : {M : Type 1} → statement M
 peeksize-spec =
