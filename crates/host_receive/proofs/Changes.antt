@@ -1,6 +1,6 @@
 -- The words that each call writes in the words of a block are those of the block that it leaves, and what stays is as it was. Assumes nothing.
 use Prim.Native.Nat.{ℕ}
-use mathlib.Core.Path.{_≡_, refl, sym, ap, _∙_}
+use mathlib.Core.Path.{_≡_, refl}
 use mathlib.Core.Bool.{Bool, true, false}
 use mathlib.Core.List.{List}
 use lib.ListN.{length, set}
@@ -16,7 +16,7 @@ use Rattle.block.specs.declared.refusal.Refusal.{Refusal}
 use Rattle.block.specs.Parts.{withCongestion, withReceiver, withProbe}
 use Rattle.words.specs.Words.{wordsOf, withRcvWords, withWindows}
 use Rattle.receiving.specs.Rules.{Answer, empty, expecting, longer, gives, tells, wanted, tooLarge}
-use Rattle.receive.specs.declared.Length.the-variants.{Is, Refused}
+use Rattle.receive.specs.declared.Length.the-variants.{Refused}
 use Rattle.receive.specs.Fits.{receiveFits}
 use Rattle.receive.specs.Memory.{moveBufAt, answerAt, freedAt, handedAt, withTell, probeAt, widenedAt, sendWindow, receiveWindow, windowsAt}
 use Rattle.kcp.specs.Calls.{moveBufOf, RecvOut, outBy, recvOf, setWndsizeOf}
