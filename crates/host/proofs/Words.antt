@@ -1,7 +1,7 @@
 -- What a host is told of the words of a block: by a setter, and by a constructor. Assumes nothing.
 use Prim.Native.Nat.{ℕ, _<_}
 use mathlib.Core.Path.{_≡_, refl, sym, ap, _∙_}
-use mathlib.Core.Bool.{Bool, true, false, not, _&&_}
+use mathlib.Core.Bool.{Bool, true, false, not}
 use mathlib.Core.List.{List}
 use lib.IntN.{ℤ}
 use lib.ListN.{length, set}
@@ -12,7 +12,7 @@ use Rattle.block.specs.declared.set.Set.{Set}
 use Rattle.block.specs.declared.make.Made.{Made}
 use Rattle.block.specs.declared.make.Made.the-variants.{Block, Refused}
 use Rattle.block.specs.declared.refusal.Refusal.{Refusal}
-use Rattle.block.specs.declared.refusal.Refusal.the-variants.{BadPool, InvalidMtu}
+use Rattle.block.specs.declared.refusal.Refusal.the-variants.{InvalidMtu}
 use Rattle.block.specs.declared.refusal.Answer.the-variants.{Done, Refused as NotDone}
 use Rattle.block.specs.Fresh.{Lent, lentSizes, madeOf, Makes}
 use Rattle.block.specs.Sizes.{mtuSize, mssOf}

@@ -1,4 +1,4 @@
--- `host::make::new` meets its contract. The law of words that are not forty, of sizes that are refused, and of a block that is made. Assumes nothing.
+-- `host::make::new` meets its contract. The law of words that are not thirty-five, of sizes that are refused, and of a block that is made. Assumes nothing.
 use Rattle.host.proofs.Words.{make-short, make-refused, make-done}
 use borrow.Author.Needs.{needs}
 use Rattle.host.proofs.make.new.Statement.{statement}

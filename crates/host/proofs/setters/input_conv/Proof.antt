@@ -1,51 +1,34 @@
+-- `host::setters::input_conv` meets its contract. Assumes nothing.
 use native.Mathlib.Omega.{arith}
-use mathlib.Core.Path.{refl, ap, _∙_}
-use lib.ListN.{set}
-use Rattle.serial.specs.Branch.{pick}
-use Rattle.block.specs.declared.set.Set.{Set}
-use Rattle.block.specs.Sizes.{mtuSize}
+use mathlib.Core.Path.{refl}
 use Rattle.block.specs.Setters.{inputConv}
-use Rattle.words.specs.Words.{blockOf, withFlags, withMtuWords}
+use Rattle.words.specs.Words.{blockOf, withFlags}
 use Rattle.host.proofs.Words.{set-refused, set-done, held-length, await-words}
 use borrow.Author.Needs.{needs}
 use Rattle.host.proofs.setters.input_conv.Statement.{statement}
 use Rattle.host.proofs.setters.input_conv.Tie as tie
-use Rattle.host.proofs.setters.input_conv.Reads as reads
-use Rattle.host.proofs.setters.input_conv.Lts as lts
-use Rattle.block.proofs.Kcp.input_conv.Reads as input-conv-reads
-use Rattle.words.proofs.block.Reads as block-reads
-use Rattle.words.proofs.is_block.Reads as is-block-reads
-use Rattle.words.proofs.put_flags.Reads as put-flags-reads
 
--- src/setters.rt:89:9
 is-block-requires : tie.Need-is-block-requires
 is-block-requires c κs = search needs
 
--- src/setters.rt:90:9
 same-length : tie.Need-same-length
 same-length c = search needs
 
--- src/setters.rt:90:9
 returns : tie.Need-returns
 returns c = let a = c .before .before .before .before .args in set-refused (λ k. inputConv k) 0 (a .words .now) (c .before .is-block .ensures) (c .if1 .taken)
 
--- src/setters.rt:92:17
 block-requires : tie.Need-block-requires
 block-requires c κs = held-length (c .before .before .before .before .before .args .words .now) (c .before .before .is-block .ensures) (c .before .if1 .left)
 
--- src/setters.rt:92:9
 input-conv-requires : tie.Need-input-conv-requires
 input-conv-requires c κs = search needs
 
--- src/setters.rt:93:5
 put-flags-requires : tie.Need-put-flags-requires
 put-flags-requires c κs = held-length (c .before .before .before .before .before .before .before .before .args .words .now) (c .before .before .before .before .before .is-block .ensures) (c .before .before .before .before .if1 .left)
 
--- src/setters.rt:86:1
 same-length-2 : tie.Need-same-length-2
 same-length-2 c = search needs
 
--- src/setters.rt:86:1
 returns-2 : tie.Need-returns-2
 returns-2 c =
     let a = c .before .before .before .before .before .before .before .before .before .before .before .args in

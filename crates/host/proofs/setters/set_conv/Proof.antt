@@ -1,52 +1,36 @@
+-- `host::setters::set_conv` meets its contract. Assumes nothing.
 use Rattle.block.specs.declared.Kcp.{Kcp}
 use native.Mathlib.Omega.{arith}
 use mathlib.Core.Path.{refl, ap, _∙_}
 use lib.ListN.{set}
-use Rattle.serial.specs.Branch.{pick}
-use Rattle.block.specs.declared.set.Set.{Set}
-use Rattle.block.specs.Sizes.{mtuSize}
 use Rattle.block.specs.Setters.{setConv}
-use Rattle.words.specs.Words.{blockOf, withFlags, withMtuWords}
+use Rattle.words.specs.Words.{blockOf}
 use Rattle.host.proofs.Words.{set-refused, set-done, held-length, conv-words}
 use borrow.Author.Needs.{needs}
 use Rattle.host.proofs.setters.set_conv.Statement.{statement}
 use Rattle.host.proofs.setters.set_conv.Tie as tie
-use Rattle.host.proofs.setters.set_conv.Reads as reads
-use Rattle.host.proofs.setters.set_conv.Lts as lts
-use Rattle.block.proofs.Kcp.set_conv.Reads as set-conv-reads
-use Rattle.words.proofs.block.Reads as block-reads
-use Rattle.words.proofs.is_block.Reads as is-block-reads
-use Rattle.words.proofs.put_conv.Reads as put-conv-reads
 
--- src/setters.rt:101:9
 is-block-requires : tie.Need-is-block-requires
 is-block-requires c κs = search needs
 
--- src/setters.rt:102:9
 same-length : tie.Need-same-length
 same-length c = search needs
 
--- src/setters.rt:102:9
 returns : tie.Need-returns
 returns c = let a = c .before .before .before .before .args in set-refused (λ k. setConv k (a .conv)) 0 (a .words .now) (c .before .is-block .ensures) (c .if1 .taken)
 
--- src/setters.rt:104:17
 block-requires : tie.Need-block-requires
 block-requires c κs = held-length (c .before .before .before .before .before .args .words .now) (c .before .before .is-block .ensures) (c .before .if1 .left)
 
--- src/setters.rt:104:9
 set-conv-requires : tie.Need-set-conv-requires
 set-conv-requires c κs = search needs
 
--- src/setters.rt:105:5
 put-conv-requires : tie.Need-put-conv-requires
 put-conv-requires c κs = held-length (c .before .before .before .before .before .before .before .before .args .words .now) (c .before .before .before .before .before .is-block .ensures) (c .before .before .before .before .if1 .left)
 
--- src/setters.rt:98:1
 same-length-2 : tie.Need-same-length-2
 same-length-2 c = search needs
 
--- src/setters.rt:98:1
 returns-2 : tie.Need-returns-2
 returns-2 c =
     let a = c .before .before .before .before .before .before .before .before .before .before .before .args in

@@ -1,52 +1,36 @@
+-- `host::setters::set_fast_resend` meets its contract. Assumes nothing.
 use Rattle.block.specs.declared.Kcp.{Kcp}
 use native.Mathlib.Omega.{arith}
 use mathlib.Core.Path.{refl, ap, _∙_}
 use lib.ListN.{set}
-use Rattle.serial.specs.Branch.{pick}
-use Rattle.block.specs.declared.set.Set.{Set}
-use Rattle.block.specs.Sizes.{mtuSize}
 use Rattle.block.specs.Setters.{setFastResend}
-use Rattle.words.specs.Words.{blockOf, withFlags, withMtuWords}
+use Rattle.words.specs.Words.{blockOf}
 use Rattle.host.proofs.Words.{set-refused, set-done, held-length, resend-words}
 use borrow.Author.Needs.{needs}
 use Rattle.host.proofs.setters.set_fast_resend.Statement.{statement}
 use Rattle.host.proofs.setters.set_fast_resend.Tie as tie
-use Rattle.host.proofs.setters.set_fast_resend.Reads as reads
-use Rattle.host.proofs.setters.set_fast_resend.Lts as lts
-use Rattle.block.proofs.Kcp.set_fast_resend.Reads as set-fast-resend-reads
-use Rattle.words.proofs.block.Reads as block-reads
-use Rattle.words.proofs.is_block.Reads as is-block-reads
-use Rattle.words.proofs.put_fastresend.Reads as put-fastresend-reads
 
--- src/setters.rt:65:9
 is-block-requires : tie.Need-is-block-requires
 is-block-requires c κs = search needs
 
--- src/setters.rt:66:9
 same-length : tie.Need-same-length
 same-length c = search needs
 
--- src/setters.rt:66:9
 returns : tie.Need-returns
 returns c = let a = c .before .before .before .before .args in set-refused (λ k. setFastResend k (a .fr)) 0 (a .words .now) (c .before .is-block .ensures) (c .if1 .taken)
 
--- src/setters.rt:68:17
 block-requires : tie.Need-block-requires
 block-requires c κs = held-length (c .before .before .before .before .before .args .words .now) (c .before .before .is-block .ensures) (c .before .if1 .left)
 
--- src/setters.rt:68:9
 set-fast-resend-requires : tie.Need-set-fast-resend-requires
 set-fast-resend-requires c κs = search needs
 
--- src/setters.rt:69:5
 put-fastresend-requires : tie.Need-put-fastresend-requires
 put-fastresend-requires c κs = held-length (c .before .before .before .before .before .before .before .before .args .words .now) (c .before .before .before .before .before .is-block .ensures) (c .before .before .before .before .if1 .left)
 
--- src/setters.rt:62:1
 same-length-2 : tie.Need-same-length-2
 same-length-2 c = search needs
 
--- src/setters.rt:62:1
 returns-2 : tie.Need-returns-2
 returns-2 c =
     let a = c .before .before .before .before .before .before .before .before .before .before .before .args in

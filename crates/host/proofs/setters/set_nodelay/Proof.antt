@@ -1,3 +1,4 @@
+-- `host::setters::set_nodelay` meets its contract. Assumes nothing.
 use native.Mathlib.Omega.{arith}
 use mathlib.Core.Path.{refl}
 use mir.Syntax.{w32}
@@ -8,42 +9,28 @@ use Rattle.host.proofs.Words.{set-refused, set-done, held-length, nodel
 use borrow.Author.Needs.{needs}
 use Rattle.host.proofs.setters.set_nodelay.Statement.{statement}
 use Rattle.host.proofs.setters.set_nodelay.Tie as tie
-use Rattle.host.proofs.setters.set_nodelay.Reads as reads
-use Rattle.host.proofs.setters.set_nodelay.Lts as lts
-use Rattle.block.proofs.Kcp.set_nodelay.Reads as set-nodelay-reads
-use Rattle.words.proofs.block.Reads as block-reads
-use Rattle.words.proofs.is_block.Reads as is-block-reads
-use Rattle.words.proofs.put_nodelay.Reads as put-nodelay-reads
 
--- src/setters.rt:38:9
 is-block-requires : tie.Need-is-block-requires
 is-block-requires c κs = search needs
 
--- src/setters.rt:39:9
 same-length : tie.Need-same-length
 same-length c = search needs
 
--- src/setters.rt:39:9
 returns : tie.Need-returns
 returns c = let a = c .before .before .before .before .args in set-refused (λ k. setNodelay k (a .nodelay) (a .interval) (a .resend) (a .nc)) 0 (a .words .now) (c .before .is-block .ensures) (c .if1 .taken)
 
--- src/setters.rt:41:17
 block-requires : tie.Need-block-requires
 block-requires c κs = held-length (c .before .before .before .before .before .args .words .now) (c .before .before .is-block .ensures) (c .before .if1 .left)
 
--- src/setters.rt:41:9
 set-nodelay-requires : tie.Need-set-nodelay-requires
 set-nodelay-requires c κs = search needs
 
--- src/setters.rt:42:5
 put-nodelay-requires : tie.Need-put-nodelay-requires
 put-nodelay-requires c κs = held-length (c .before .before .before .before .before .before .before .before .args .words .now) (c .before .before .before .before .before .is-block .ensures) (c .before .before .before .before .if1 .left)
 
--- src/setters.rt:35:1
 same-length-2 : tie.Need-same-length-2
 same-length-2 c = search needs
 
--- src/setters.rt:35:1
 returns-2 : tie.Need-returns-2
 returns-2 c =
     let a = c .before .before .before .before .before .before .before .before .before .before .before .args in

@@ -1,52 +1,36 @@
+-- `host::setters::set_rx_minrto` meets its contract. Assumes nothing.
 use Rattle.block.specs.declared.Kcp.{Kcp}
 use native.Mathlib.Omega.{arith}
 use mathlib.Core.Path.{refl, ap, _∙_}
 use lib.ListN.{set}
-use Rattle.serial.specs.Branch.{pick}
-use Rattle.block.specs.declared.set.Set.{Set}
-use Rattle.block.specs.Sizes.{mtuSize}
 use Rattle.block.specs.Setters.{setRxMinrto}
-use Rattle.words.specs.Words.{blockOf, withFlags, withMtuWords}
+use Rattle.words.specs.Words.{blockOf}
 use Rattle.host.proofs.Words.{set-refused, set-done, held-length, minrto-words}
 use borrow.Author.Needs.{needs}
 use Rattle.host.proofs.setters.set_rx_minrto.Statement.{statement}
 use Rattle.host.proofs.setters.set_rx_minrto.Tie as tie
-use Rattle.host.proofs.setters.set_rx_minrto.Reads as reads
-use Rattle.host.proofs.setters.set_rx_minrto.Lts as lts
-use Rattle.block.proofs.Kcp.set_rx_minrto.Reads as set-rx-minrto-reads
-use Rattle.words.proofs.block.Reads as block-reads
-use Rattle.words.proofs.is_block.Reads as is-block-reads
-use Rattle.words.proofs.put_minrto.Reads as put-minrto-reads
 
--- src/setters.rt:53:9
 is-block-requires : tie.Need-is-block-requires
 is-block-requires c κs = search needs
 
--- src/setters.rt:54:9
 same-length : tie.Need-same-length
 same-length c = search needs
 
--- src/setters.rt:54:9
 returns : tie.Need-returns
 returns c = let a = c .before .before .before .before .args in set-refused (λ k. setRxMinrto k (a .rto)) 0 (a .words .now) (c .before .is-block .ensures) (c .if1 .taken)
 
--- src/setters.rt:56:17
 block-requires : tie.Need-block-requires
 block-requires c κs = held-length (c .before .before .before .before .before .args .words .now) (c .before .before .is-block .ensures) (c .before .if1 .left)
 
--- src/setters.rt:56:9
 set-rx-minrto-requires : tie.Need-set-rx-minrto-requires
 set-rx-minrto-requires c κs = search needs
 
--- src/setters.rt:57:5
 put-minrto-requires : tie.Need-put-minrto-requires
 put-minrto-requires c κs = held-length (c .before .before .before .before .before .before .before .before .args .words .now) (c .before .before .before .before .before .is-block .ensures) (c .before .before .before .before .if1 .left)
 
--- src/setters.rt:50:1
 same-length-2 : tie.Need-same-length-2
 same-length-2 c = search needs
 
--- src/setters.rt:50:1
 returns-2 : tie.Need-returns-2
 returns-2 c =
     let a = c .before .before .before .before .before .before .before .before .before .before .before .args in
