@@ -1,7 +1,8 @@
-// The call that is handed the send pool, over a block that a host keeps as forty words. Words that are no block are refused by 15, which
-// leaves all.
+// The call that is handed the send memory, over a block that a host keeps as words. Words that are no block are refused by 15, which leaves all. Of the
+// words it writes those of the ring alone: a send changes no others.
 ghost use mathlib.Core.Path.{_≡_};
-ghost use Rattle.slots.specs.Pool.{lists};
+ghost use Rattle.ring.specs.Lists.{lists};
+ghost use Rattle.snd_ring.specs.Store.{storeOf};
 ghost use Rattle.block.specs.Refusals.{numberOfBytes};
 ghost use Rattle.host_send.specs.Words.{countIn, WordsSent};
 use block::refusal::Bytes;
@@ -30,22 +31,21 @@ fn count_in(n: usize, answer: Bytes) -> usize
 // last segment of a stream.
 pub fn send(
     words: &mut [u32],
-    order: &mut [u32],
     records: &mut [u32],
     room: &mut [u8],
     bytes: &[u8],
     queued: &mut usize,
 ) -> u32
-    ensures { λ r. ⌜ WordsSent (lists (now (order .entry)) (now (records .entry)) (now (room .entry))) (now (bytes .entry)) (now (words .entry)) (now (queued .entry)) r
-        (lists (now (order .exit)) (now (records .exit)) (now (room .exit))) (now (words .exit)) (now (queued .exit)) ⌝ }
+    ensures { λ r. ⌜ WordsSent (lists (now (records .entry)) (now (room .entry))) (now (bytes .entry)) (now (words .entry)) (now (queued .entry)) r
+        (storeOf 8 (lists (now (records .exit)) (now (room .exit)))) (now (words .exit)) (now (queued .exit)) ⌝ }
 {
     if !words::is_block(words) {
         return 15;
     }
     let block = words::block(words);
-    let out = kcp::sender::send(block, order, records, room, bytes);
+    let out = kcp_send::send(block, records, room, bytes);
     let after = out.block;
-    words::write_sender(after.sender, words);
+    words::put_snd_ring(after.sender.ring, words);
     let answer = out.answer;
     *queued = count_in(*queued, answer);
     number_of(answer)
