@@ -64,7 +64,7 @@ module _ (rcv : Lists) (acks waiting : List ℕ) (snd : Lists) (s l : List ℕ) 
       words = w ∙ gives (λ o. wordsOf (o .block)) l;
       receives = gives (λ o. o .rcv) rcv;
       list = gives (λ o. o .acks) acks;
-      sends = gives (λ o. o .snd) snd;
+      sends = gives (λ o. o .snd) (storeOf 8 snd);
     }
 
 -- any two outcomes that meet the promise coincide

@@ -10,21 +10,19 @@ use Rattle.replay.proofs.run.Statement.{statement}
 use Rattle.replay.proofs.run.Tie as tie
 
 -- no lent memory changes its length
-record Kept (o r m so sr a b o′ r′ m′ so′ sr′ a′ b′ : List ℕ) : Type 0 where
-  order : length o′ ≡ length o
+record Kept (r m sr a b r′ m′ sr′ a′ b′ : List ℕ) : Type 0 where
   records : length r′ ≡ length r
   room : length m′ ≡ length m
-  sndOrder : length so′ ≡ length so
   sndRecords : length sr′ ≡ length sr
   acks : length a′ ≡ length a
   buf : length b′ ≡ length b
 
 abbrev Inv-loop : tie.InvT-loop
-Inv-loop steps order₀ records₀ room₀ snd-order₀ snd-records₀ snd-room acks₀ waiting buf₀ block₀ tally₀ i₀ order records room snd-order snd-records acks buf block tally i =
-    (i ≤ 300) × ((tally .steps ≡ i) × (Fair tally × Kept order₀ records₀ room₀ snd-order₀ snd-records₀ acks₀ buf₀ order records room snd-order snd-records acks buf))
+Inv-loop steps records₀ room₀ snd-records₀ snd-room acks₀ waiting buf₀ block₀ tally₀ i₀ records room snd-records acks buf block tally i =
+    (i ≤ 300) × ((tally .steps ≡ i) × (Fair tally × Kept records₀ room₀ snd-records₀ acks₀ buf₀ records room snd-records acks buf))
 
 abbrev μ-loop : tie.MeasureT-loop
-μ-loop steps order₀ records₀ room₀ snd-order₀ snd-records₀ snd-room acks₀ waiting buf₀ block₀ tally₀ i₀ order records room snd-order snd-records acks buf block tally i =
+μ-loop steps records₀ room₀ snd-records₀ snd-room acks₀ waiting buf₀ block₀ tally₀ i₀ records room snd-records acks buf block tally i =
     300 - i
 
 new-requires : tie.Need-new-requires Inv-loop μ-loop
@@ -67,13 +65,11 @@ loop-again c =
         (
           c .with .ensures .0,
           record {
-            order = k .1 .1 .0 ∙ e .order;
-            records = k .1 .1 .1 .0 ∙ e .records;
-            room = k .1 .1 .1 .1 .0 ∙ e .room;
-            sndOrder = k .1 .1 .1 .1 .1 .0 ∙ e .sndOrder;
-            sndRecords = k .1 .1 .1 .1 .1 .1 .0 ∙ e .sndRecords;
-            acks = k .1 .1 .1 .1 .1 .1 .1 .1 .0 ∙ e .acks;
-            buf = k .1 .1 .1 .1 .1 .1 .1 .1 .1 .1 .0 ∙ e .buf;
+            records = k .1 .1 .0 ∙ e .records;
+            room = k .1 .1 .1 .0 ∙ e .room;
+            sndRecords = k .1 .1 .1 .1 .0 ∙ e .sndRecords;
+            acks = k .1 .1 .1 .1 .1 .1 .0 ∙ e .acks;
+            buf = k .1 .1 .1 .1 .1 .1 .1 .1 .0 ∙ e .buf;
           },
         ),
       ),
@@ -93,12 +89,6 @@ same-length-4 c = omega arith
 
 same-length-5 : tie.Need-same-length-5 Inv-loop μ-loop
 same-length-5 c = omega arith
-
-same-length-6 : tie.Need-same-length-6 Inv-loop μ-loop
-same-length-6 c = omega arith
-
-same-length-7 : tie.Need-same-length-7 Inv-loop μ-loop
-same-length-7 c = omega arith
 
 returns : tie.Need-returns Inv-loop μ-loop
 returns c = search needs
@@ -123,6 +113,4 @@ run-spec =
     same-length-3
     same-length-4
     same-length-5
-    same-length-6
-    same-length-7
     returns)

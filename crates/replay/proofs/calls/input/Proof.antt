@@ -23,12 +23,6 @@ same-length-3 c = search needs
 same-length-4 : tie.Need-same-length-4
 same-length-4 c = search needs
 
-same-length-5 : tie.Need-same-length-5
-same-length-5 c = search needs
-
-same-length-6 : tie.Need-same-length-6
-same-length-6 c = search needs
-
 returns : tie.Need-returns
 returns c = rw (c .number-of-bytes .ensures) (ap madeByInput (c .before .before .before .before .before .before .before .before .before .before .before .before .before .before .input .ensures .is))
 
@@ -42,6 +36,4 @@ input-spec =
     same-length-2
     same-length-3
     same-length-4
-    same-length-5
-    same-length-6
     returns)

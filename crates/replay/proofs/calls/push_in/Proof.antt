@@ -24,12 +24,6 @@ same-length-4 c = search needs
 same-length-5 : tie.Need-same-length-5
 same-length-5 c = search needs
 
-same-length-6 : tie.Need-same-length-6
-same-length-6 c = search needs
-
-same-length-7 : tie.Need-same-length-7
-same-length-7 c = search needs
-
 returns : tie.Need-returns
 returns c =
     let s = c .before .before .before .before .before .before .before .before .before .before .before .before in
@@ -46,6 +40,4 @@ push-in-spec =
     same-length-3
     same-length-4
     same-length-5
-    same-length-6
-    same-length-7
     returns)

@@ -20,9 +20,6 @@ made-by-length-requires c κs = search needs
 same-length : tie.Need-same-length
 same-length c = search needs
 
-same-length-2 : tie.Need-same-length-2
-same-length-2 c = search needs
-
 returns : tie.Need-returns
 returns c =
     let s = c .before .before .before .before .before .before .before .before .before in
@@ -37,5 +34,4 @@ recv-spec =
     checksum-requires
     made-by-length-requires
     same-length
-    same-length-2
     returns)

@@ -27,9 +27,6 @@ recv-requires c κs = search needs
 same-length : tie.Need-same-length
 same-length c = search needs
 
-same-length-2 : tie.Need-same-length-2
-same-length-2 c = search needs
-
 returns-2 : tie.Need-returns-2
 returns-2 c = search needs
 
@@ -44,5 +41,4 @@ recv-step-spec =
     slice-aggregate-recv
     recv-requires
     same-length
-    same-length-2
     returns-2)
