@@ -1,3 +1,0 @@
-pub mod Walks
-pub mod Memory
-pub mod History
