@@ -1,0 +1,458 @@
+-- What every call keeps of the block and its lent memory, so that no call is refused by 15; and that a call does to the receive side what its
+-- events do. Assumes nothing.
+use Prim.Native.Nat.{ℕ, _≤_, _<_, _^_}
+use native.Mathlib.Omega.{arith}
+use mathlib.Core.Path.{_≡_, refl, sym, ap, _∙_, subst}
+use mathlib.Core.Bool.{Bool, true, false, _&&_}
+use mathlib.Core.List.{List, [], _∷_}
+use lib.ListN.{length, take}
+use lib.Dec.{leb, ltb}
+use borrow.Author.Tests.{leb-true, leb-false, lt-ltb, le-ltb}
+use Rattle.serial.specs.Branch.{pick-true, pick-false}
+use Rattle.ring.specs.Lists.{Lists}
+use Rattle.ring.specs.Records.{put}
+use Rattle.snd_ring.specs.Store.{Store, storeOf, Sound}
+use Rattle.snd_ring.proofs.Splits.{marks-length}
+use Rattle.wire.specs.LittleEndian.{Octets}
+use Rattle.block.specs.declared.Kcp.{Kcp}
+use Rattle.block.specs.declared.set.Set.{Set}
+use Rattle.block.specs.declared.probe.Probe.{Probe}
+use Rattle.block.specs.declared.receiver.Receiver.{Receiver}
+use Rattle.block.specs.declared.acklist.AckList.{AckList}
+use Rattle.block.specs.declared.sender.Sender.{Sender}
+use Rattle.block.specs.Parts.{withReceiver, withSender}
+use Rattle.block.specs.Sizes.{RingSizes, sendSlots, AckSizes, pairs, mtuSize}
+use Rattle.block.specs.WellFormed.{SettingsFit, ProbeFits, AckListFits, SenderFits, OwnNumbers}
+use Rattle.block.specs.Setters.{setMtu}
+use Rattle.block.proofs.Exact.{exactly-within, exactly-le, own-numbers, ack-sizes}
+use Rattle.receiving.specs.Rules.{Answer, empty, expecting, longer, gives, payloads, joined, given, tooLarge, tells}
+use Rattle.receiving.specs.History.{Event, eventRecv, eventMove, eventWindow, AllSmall, runFrom, leaves as ruleLeaves, hands as ruleHands, step as ruleStep}
+use Rattle.receiving.specs.History as rules
+use Rattle.receive.specs.Memory.{seen, messageAt, bytesAt, recvBy, recvAt, answerAt, handedAt, moveBufAt, probeAt, widenedAt, receiveWindow, windowsAt}
+use Rattle.receive.specs.Fits.{receiveFits, ReceiveFits, Good}
+use Rattle.receive.proofs.Seen.{message-queued, seen-answer, seen-message, seen-bytes, seen-recv, recv-good, recv-next, seen-moveBuf, move-good, move-next}
+use Rattle.receive.proofs.Windows.{seen-window, window-good}
+use Rattle.receive.proofs.Exact.{exactly, lent-exactly, fits-of}
+use Rattle.transmit.specs.Memory.{Side}
+use Rattle.transmit.specs.Fits.{sendFits, SendFits}
+use Rattle.send.specs.Memory.{sendAt}
+use Rattle.transmit.proofs.Seen.{AsLarge, fastack-sound, fastack-slots}
+use Rattle.transmit.proofs.Exact.{exactly as send-exactly, lent-exactly as send-lent-exactly, fits-of as send-fits-of, sound-of, sender-fits-of}
+use Rattle.send.proofs.Keep.{send-sound, send-keeps, send-asks}
+use Rattle.input.specs.Segment.{Met, End, through, stopped}
+use Rattle.input.specs.Datagram.{ReadOut, metOf, finished, walkOf, readAt}
+use Rattle.kcp.specs.Calls.{moveBufOf, outBy, recvOf, setWndsizeOf, RecvOut}
+use Rattle.kcp_send.specs.Send.{SendOut, sendOf}
+use Rattle.kcp_input.specs.Input.{ackLent, inputFits, inputOf}
+use Rattle.history.specs.History.{Call, callInput, callSend, callMoveBuf, callPeeksize, callRecv, callSetWndsize, callSetMtu, callSetInterval, callSetNodelay, callSetRxMinrto, callSetFastResend, callSetMaximumResendTimes, callInputConv, callSetConv, callGet, listsOf, Memory, withBlock, leaves, seenIn, unlessBad, events}
+use Rattle.history.specs.Pushes.{pushesOf}
+use Rattle.history.proofs.Segments.{pick-of}
+use Rattle.history.proofs.Rising.{Flies, fastack-flies, send-flies}
+use Rattle.history.proofs.Stores.{lists-back, store-back, sizes-back}
+use Rattle.history.proofs.Walks.{seenMet, Fit, Stays, walks, pushes-small, walk-runs}
+
+-- all that the tests for 15 ask of the block and its lent memory; and the numbers in flight rise
+pub record Fine (m : Memory) : Type 0 where
+  pub good : Good (m .block .receiver) (m .rcv)
+  pub low : m .block .receiver .«rcv_nxt» < 2 ^ 32
+  pub sizes : RingSizes 256 1024 (length (m .rcv .records)) 1 (length (m .rcv .records)) (length (m .rcv .room))
+  pub own : OwnNumbers (m .block)
+  pub sound : Sound 8 (m .block .sender .ring) (storeOf 8 (m .snd))
+  pub send-sizes : RingSizes 128 1024 (sendSlots (length (m .snd .records))) 9 (length (m .snd .records)) (length (m .snd .room))
+  pub flies : Flies (m .block .sender) (storeOf 8 (m .snd))
+  -- the limits of the ack memory, and "at most A acks"
+  pub ack-memory : AckSizes (length (m .acks)) (length (m .waiting))
+  pub few : m .block .acklist .acks ≤ pairs (length (m .acks))
+
+-- the call c at m leaves what its events leave
+pub record Follows (c : Call) (m : Memory) : Type 0 where
+  pub fine : Fine (leaves c m)
+  pub slots : length (leaves c m .rcv .records) ≡ length (m .rcv .records)
+  pub small : AllSmall (events c m)
+  pub sees : (r : rules.Past) → r .now ≡ seenIn m → runFrom (length (m .rcv .records)) r (events c m) .now ≡ seenIn (leaves c m)
+
+-- the same of a memory and of events that the call is known to leave and to have
+record To (c : Call) (m n : Memory) (es : List Event) : Type 0 where
+  is : leaves c m ≡ n
+  has : events c m ≡ es
+  fine : Fine n
+  slots : length (n .rcv .records) ≡ length (m .rcv .records)
+  small : AllSmall es
+  sees : (r : rules.Past) → r .now ≡ seenIn m → runFrom (length (m .rcv .records)) r es .now ≡ seenIn n
+
+follow : {c : Call} {m n : Memory} {es : List Event} → To c m n es → Follows c m
+follow x = record { fine = rw (x .is) (x .fine); slots = rw (x .is) (x .slots); small = rw (x .has) (x .small); sees = rw (x .is, x .has) (x .sees) }
+
+and-no : (b : Bool) → (b && false) ≡ false
+and-no true = refl
+and-no false = refl
+
+-- ---- no call is refused by 15
+
+module _ (m : Memory) (f : Fine m) where
+  fits-receive : ReceiveFits (m .block) (m .rcv)
+  fits-receive = fits-of (f .sizes) (f .own) (f .good)
+
+  pub receive-fits : receiveFits (m .block) (m .rcv) ≡ true
+  receive-fits = exactly (m .block) (m .rcv) .tests fits-receive
+
+  fits-send : SendFits (m .block) (m .snd)
+  fits-send = send-fits-of (m .block) (m .snd) (f .own) (f .send-sizes) (f .sound)
+
+  pub send-fits : sendFits (m .block) (m .snd) ≡ true
+  send-fits = send-exactly (m .block) (m .snd) .tests fits-send
+
+  ack-fits : ackLent (m .block .acklist) (m .acks) (m .waiting) ≡ true
+  unfolding ackLent
+  ack-fits =
+      rw (ack-sizes (length (m .acks)) (length (m .waiting)) .tests (f .ack-memory))
+      (exactly-le (m .block .acklist .acks) (pairs (length (m .acks))) .tests (f .few))
+
+  pub input-fits : inputFits (m .block) (m .rcv) (m .acks) (m .waiting) (m .snd) ≡ true
+  unfolding inputFits
+  input-fits =
+      rw (own-numbers (m .block) .tests (f .own), lent-exactly (m .block .receiver) (m .rcv) .tests (fits-receive .lent), send-lent-exactly (m .block .sender) (m .snd) .tests (fits-send .lent))
+      ack-fits
+
+-- ---- the calls
+
+-- what a call leaves beside the receive side
+record Beside (k n : Kcp) : Type 0 where
+  settings : SettingsFit (k .settings) → SettingsFit (n .settings)
+  probe : ProbeFits (k .probe) → ProbeFits (n .probe)
+  acklist : n .acklist ≡ k .acklist
+  sender : n .sender ≡ k .sender
+
+module _ (m : Memory) (f : Fine m) where
+  abbrev k : Kcp
+  k = m .block
+
+  abbrev slots : ℕ
+  slots = length (m .rcv .records)
+
+  most : slots ≤ 1024
+  most = f .sizes .few .high
+
+  -- the block's numbers beside the receive side that the test for 15 looks at
+  abbrev aside : Kcp → ℕ × ℕ × Probe × AckList × Sender
+  aside n = (n .settings .mtu, n .settings .mss, n .probe, n .acklist, n .sender)
+
+  unmoved : {n : Kcp} → aside n ≡ aside k → Beside k n
+  unmoved e =
+      let a = ap (λ x. x .0) e in
+      let b = ap (λ x. x .1) e in
+      record {
+        settings = λ s. record { mtu = rw a (s .mtu); mss = b ∙ s .mss ∙ rw a };
+        probe = λ p. subst ProbeFits (sym (ap (λ x. x .2) e)) p;
+        acklist = ap (λ x. x .3) e;
+        sender = ap (λ x. x .4) e;
+      }
+
+  fine-beside : {n : Kcp} → Beside k n → Good (n .receiver) (m .rcv) → n .receiver .«rcv_nxt» < 2 ^ 32 → Fine (withBlock m n)
+  fine-beside {n} b g l = record {
+    good = g;
+    low = l;
+    sizes = f .sizes;
+    own = record {
+      settings = b .settings (f .own .settings);
+      probe = b .probe (f .own .probe);
+      receiver = g .fits;
+      sender = subst SenderFits (sym (b .sender)) (f .own .sender);
+      acklist = subst AckListFits (sym (b .acklist)) (f .own .acklist);
+    };
+    sound = subst (λ (s : Sender). Sound 8 (s .ring) (storeOf 8 (m .snd))) (sym (b .sender)) (f .sound);
+    send-sizes = f .send-sizes;
+    flies = subst (λ (s : Sender). Flies s (storeOf 8 (m .snd))) (sym (b .sender)) (f .flies);
+    ack-memory = f .ack-memory;
+    few = subst (λ (a : AckList). a .acks ≤ pairs (length (m .acks))) (sym (b .acklist)) (f .few);
+  }
+
+  -- a call that leaves the receive side as it is
+  still : (c : Call) (n : Kcp) → Beside k n → n .receiver ≡ k .receiver → leaves c m ≡ withBlock m n → events c m ≡ [] → To c m (withBlock m n) []
+  unfolding runFrom
+  still c n b same is none = record {
+    is = is;
+    has = none;
+    fine = fine-beside b (rw same (f .good)) (rw same (f .low));
+    slots = refl;
+    small = tt;
+    sees = λ r e. rw same e;
+  }
+
+  -- one event
+  once : (x : Event) (r : rules.Past) (n : Memory) → r .now ≡ seenIn m → ruleLeaves slots x (seenIn m) ≡ seenIn n → runFrom slots r (x ∷ []) .now ≡ seenIn n
+  unfolding runFrom ruleStep
+  once x r n e g = ap (ruleLeaves slots x) e ∙ g
+
+  one : (x : Event) → unlessBad m x ≡ x ∷ []
+  one x = rw (receive-fits m f)
+
+  moves : To callMoveBuf m (withBlock m (withReceiver k (moveBufAt (k .receiver) (m .rcv .records)))) (eventMove ∷ [])
+  unfolding leaves events moveBufOf ruleLeaves
+  moves = record {
+    is = ap (λ (s : Set). withBlock m (s .block)) (pick-true _ _ (receive-fits m f));
+    has = one eventMove;
+    fine = fine-beside (unmoved refl) (move-good (f .good)) (move-next (k .receiver) (m .rcv .records));
+    slots = refl;
+    small = (tt, tt);
+    sees = λ r e. once eventMove r (withBlock m (withReceiver k (moveBufAt (k .receiver) (m .rcv .records)))) e (sym (seen-moveBuf (f .good) (f .low)));
+  }
+
+  module _ (sndwnd rcvwnd : ℕ) where
+    abbrev windowed : Kcp
+    windowed = windowsAt slots k sndwnd rcvwnd .block
+
+    window-beside : Beside k (windowsAt slots k sndwnd rcvwnd .block)
+    unfolding windowsAt
+    window-beside =
+        pick-of (λ (s : Set). Beside k (s .block)) (tooLarge slots rcvwnd)
+        (λ h. unmoved refl)
+        (unmoved refl)
+
+    window-next : windowsAt slots k sndwnd rcvwnd .block .receiver .«rcv_nxt» < 2 ^ 32
+    unfolding windowsAt receiveWindow widenedAt
+    window-next =
+        pick-of (λ (s : Set). s .block .receiver .«rcv_nxt» < 2 ^ 32) (tooLarge slots rcvwnd)
+        (λ h. f .low)
+        (pick-of (λ (r : Receiver). r .«rcv_nxt» < 2 ^ 32) (ltb 0 rcvwnd) (λ h. f .low) (f .low))
+
+    windows : To (callSetWndsize sndwnd rcvwnd) m (withBlock m windowed) (eventWindow rcvwnd ∷ [])
+    unfolding leaves events setWndsizeOf ruleLeaves
+    windows = record {
+      is = ap (λ (s : Set). withBlock m (s .block)) (pick-true _ _ (receive-fits m f));
+      has = one (eventWindow rcvwnd);
+      fine = fine-beside window-beside (window-good k sndwnd rcvwnd most (f .good)) window-next;
+      slots = refl;
+      small = (tt, tt);
+      sees = λ r e. once (eventWindow rcvwnd) r (withBlock m windowed) e (sym (seen-window slots k sndwnd rcvwnd (m .rcv)));
+    }
+
+  module _ (buf : List ℕ) where
+    abbrev out : Kcp
+    out = outBy (answerAt (length buf) (k .receiver) (m .rcv .records)) k (m .rcv) buf .block
+
+    out-beside : (a : Answer) → Beside k (outBy a k (m .rcv) buf .block)
+    unfolding outBy probeAt
+    out-beside empty = unmoved refl
+    out-beside expecting = unmoved refl
+    out-beside longer = unmoved refl
+    out-beside (gives n) = record {
+      settings = λ s. s;
+      probe = λ p. pick-of ProbeFits (tells (k .receiver .«rcv_wnd») (k .receiver .ring .queued) (handedAt (k .receiver) (m .rcv .records) .ring .queued)) (λ h. record { wait = p .wait }) p;
+      acklist = refl;
+      sender = refl;
+    }
+
+    out-by : (a : Answer) → outBy a k (m .rcv) buf .block .receiver ≡ recvBy a (k .receiver) (m .rcv) buf .receiver
+    unfolding outBy recvBy
+    out-by empty = refl
+    out-by expecting = refl
+    out-by longer = refl
+    out-by (gives n) = refl
+
+    out-is : out .receiver ≡ recvAt (k .receiver) (m .rcv) buf .receiver
+    unfolding recvAt
+    out-is = out-by (answerAt (length buf) (k .receiver) (m .rcv .records))
+
+    receives : To (callRecv buf) m (withBlock m out) (eventRecv (length buf) ∷ [])
+    unfolding leaves events recvOf ruleLeaves
+    receives = record {
+      is = ap (λ (o : RecvOut). withBlock m (o .block)) (pick-true _ _ (receive-fits m f));
+      has = one (eventRecv (length buf));
+      fine =
+          fine-beside (out-beside (answerAt (length buf) (k .receiver) (m .rcv .records)))
+          (subst (λ (r : Receiver). Good r (m .rcv)) (sym out-is) (recv-good (f .good) buf most))
+          (subst (λ (r : Receiver). r .«rcv_nxt» < 2 ^ 32) (sym out-is) (recv-next (k .receiver) (m .rcv) buf (f .low)));
+      slots = refl;
+      small = (tt, tt);
+      sees = λ r e. once (eventRecv (length buf)) r (withBlock m out) e (sym (ap (λ (r : Receiver). seen r (m .rcv)) out-is ∙ seen-recv (f .good) buf (f .low)));
+    }
+
+    -- the buffer has the payloads of the segments handed out, and behind them what stood there
+    pub received-bytes : recvOf k (m .rcv) buf .buf ≡ put buf 0 (joined (payloads (ruleHands (eventRecv (length buf)) (seenIn m))))
+    unfolding recvOf ruleHands outBy bytesAt given put joined
+    received-bytes =
+        ap (λ (o : RecvOut). o .buf) (pick-true _ _ (receive-fits m f))
+        ∙ go (answerAt (length buf) (k .receiver) (m .rcv .records))
+        ∙ ap (λ (a : Answer). put buf 0 (joined (payloads (take (given a (seenIn m)) (seenIn m .queue))))) (sym (seen-answer (f .good) (length buf)))
+      where
+        go : (a : Answer) → outBy a k (m .rcv) buf .buf ≡ put buf 0 (joined (payloads (take (given a (seenIn m)) (seenIn m .queue))))
+        go empty = refl
+        go expecting = refl
+        go longer = refl
+        go (gives n) =
+            let count = seen-message (k .receiver) (m .rcv) in
+            let bytes = seen-bytes (k .receiver) (m .rcv) (messageAt (k .receiver) (m .rcv .records)) (message-queued (k .receiver) (m .rcv .records)) in
+            ap (put buf 0) (bytes ∙ ap (λ (n : ℕ). joined (payloads (take n (seenIn m .queue)))) (sym count))
+
+  -- ---- send
+
+  module _ (bytes : List ℕ) where
+    abbrev sent : SendOut → Memory
+    sent o = record { block = o .block; rcv = m .rcv; acks = m .acks; waiting = m .waiting; snd = listsOf (o .store) }
+
+    abbrev after : Side
+    after = sendAt (k .settings .mss) (k .settings .stream) bytes (k .sender) (storeOf 8 (m .snd))
+
+    sends : To (callSend bytes) m (record { block = withSender k (after .sender); rcv = m .rcv; acks = m .acks; waiting = m .waiting; snd = listsOf (after .store) }) []
+    unfolding leaves events sendOf runFrom
+    sends =
+        let narrow = send-asks k (m .snd) (fits-send m f) .1 .1 in
+        let sound = send-sound (k .settings .mss) (k .settings .stream) bytes (k .sender) (storeOf 8 (m .snd)) (f .sound) narrow in
+        let back = store-back (after .store) (sound .shaped .sized) in
+        let kept = send-keeps k (m .snd) (fits-send m f) (k .settings .stream) bytes (listsOf (after .store)) back in
+        record {
+          is = ap sent (pick-true _ _ (send-fits m f));
+          has = refl;
+          fine = record {
+            good = f .good;
+            low = f .low;
+            sizes = f .sizes;
+            own = kept .own;
+            sound = sound-of kept;
+            send-sizes = kept .lent .sizes;
+            flies = subst (Flies (after .sender)) (sym back) (send-flies (k .sender) (storeOf 8 (m .snd)) (f .sound) (f .flies) (k .settings .mss) (k .settings .stream) bytes narrow);
+            ack-memory = f .ack-memory;
+            few = f .few;
+          };
+          slots = refl;
+          small = tt;
+          sees = λ r g. g;
+        }
+
+  -- ---- input
+
+  module _ (s : List ℕ) (bytes : Octets s) where
+    abbrev start : Met
+    start = metOf k (m .rcv) (m .acks) (storeOf 8 (m .snd))
+
+    start-fit : Fit start
+    start-fit = record { good = f .good; low = f .low; sound = f .sound; flies = f .flies; few = f .few }
+
+    abbrev arrived : ReadOut → Memory
+    arrived o = record { block = o .block; rcv = o .rcv; acks = o .acks; waiting = m .waiting; snd = listsOf (o .snd) }
+
+    -- what a walk leaves is fine, with a send store that is sound
+    module _ (n : Met) (x : Stays start n) where
+      fine-met : (b : Kcp) → b .settings ≡ n .block .settings → b .receiver ≡ n .block .receiver → b .acklist ≡ n .block .acklist → b .probe ≡ n .block .probe
+          → b .sender ≡ n .block .sender
+          → (q : Store) → Sound 8 (n .block .sender .ring) q → Flies (n .block .sender) q → AsLarge (n .snd) q
+          → Fine (record { block = b; rcv = n .rcv; acks = n .acks; waiting = m .waiting; snd = listsOf q })
+      fine-met b settings receiver acklist probe sender q sound flies large =
+          let back = store-back q (sound .shaped .sized) in
+          let whole : AsLarge (storeOf 8 (m .snd)) q =
+          record { marks = large .marks ∙ x .kept .snd .marks; rows = large .rows ∙ x .kept .snd .rows; room = large .room ∙ x .kept .snd .room } in
+          let few = rw (x .kept .acks) at (x .fit .few) in
+          let many = f .ack-memory .listed .high in
+          let slim = f .send-sizes .few .high in
+          let marks = whole .marks ∙ marks-length 8 (m .snd) in
+          let mtu = x .kept .mtu in
+          record {
+            good = rw receiver (x .fit .good);
+            low = rw receiver (x .fit .low);
+            sizes = rw (x .kept .records, x .kept .room) (f .sizes);
+            own = record {
+              settings = rw settings (record { mtu = rw mtu (f .own .settings .mtu); mss = x .kept .mss ∙ f .own .settings .mss ∙ rw mtu });
+              probe = rw probe (record { wait = rw (x .kept .probe) (f .own .probe .wait) });
+              receiver = rw receiver (x .fit .good .fits);
+              sender = rw sender (sender-fits-of (n .block .sender) q sound (omega arith));
+              acklist = rw acklist (record { acks = omega arith; waiting = rw (x .kept .waiting) (f .own .acklist .waiting) });
+            };
+            sound = rw (sender, back) sound;
+            send-sizes = sizes-back (m .snd) q whole (f .send-sizes);
+            flies = rw (sender, back) flies;
+            ack-memory = rw (x .kept .acks) (f .ack-memory);
+            few = rw acklist (x .fit .few);
+          }
+
+      fine-finished : (e : End) → Fine (arrived (finished k n e))
+      unfolding finished
+      fine-finished (through c) =
+          fine-met _ refl refl refl refl refl _ (fastack-sound (n .latest) (n .block .sender) (n .snd) (x .fit .sound))
+          (fastack-flies (n .block .sender) (n .snd) (x .fit .sound) (x .fit .flies) (n .latest))
+          (fastack-slots (n .latest) (n .block .sender) (n .snd) (x .fit .sound))
+      fine-finished (stopped why) = fine-met _ refl refl refl refl refl _ (x .fit .sound) (x .fit .flies) (record { marks = refl; rows = refl; room = refl })
+
+    finished-seen : (n : Met) (e : End) → seenIn (arrived (finished k n e)) ≡ seenMet n
+    unfolding finished
+    finished-seen n (through c) = refl
+    finished-seen n (stopped why) = refl
+
+    finished-slots : (n : Met) (e : End) → length (arrived (finished k n e) .rcv .records) ≡ length (n .rcv .records)
+    unfolding finished
+    finished-slots n (through c) = refl
+    finished-slots n (stopped why) = refl
+
+    -- it is read
+    read : leb 24 (length s) ≡ true → leb (length s) 1500 ≡ true → To (callInput s bytes) m (arrived (readAt k (m .rcv) (m .acks) (storeOf 8 (m .snd)) s)) (pushesOf s start)
+    unfolding leaves events inputOf readAt
+    read l h =
+        let short = leb-true (length s) 1500 h in
+        let x = walks s short bytes slots start start-fit in
+        let w = walkOf s start in
+        record {
+          is = ap arrived (pick-true _ _ (input-fits m f) ∙ pick-false _ _ (le-ltb 1500 (length s) short) ∙ pick-false _ _ (le-ltb (length s) 24 (leb-true 24 (length s) l)));
+          has = rw (input-fits m f, l, h);
+          fine = fine-finished (w .met) x (w .end);
+          slots = finished-slots (w .met) (w .end) ∙ x .kept .records;
+          small = pushes-small s short bytes slots start start-fit;
+          sees = λ r e. walk-runs s short bytes slots start start-fit r e ∙ sym (finished-seen (w .met) (w .end));
+        }
+
+    -- it is refused by 11 or by 1
+    unread : (leb 24 (length s) && leb (length s) 1500) ≡ false → (o : ReadOut) → inputOf k (m .rcv) (m .acks) (m .waiting) (m .snd) s ≡ o → arrived o ≡ m → To (callInput s bytes) m m []
+    unfolding leaves events runFrom
+    unread h o e g = record {
+      is = ap arrived e ∙ g;
+      has = rw (input-fits m f, h);
+      fine = f;
+      slots = refl;
+      small = tt;
+      sees = λ r d. d;
+    }
+
+    as-it-was : arrived (record { block = k; answer = inputOf k (m .rcv) (m .acks) (m .waiting) (m .snd) s .answer; skipped = 0; rcv = m .rcv; acks = m .acks; snd = storeOf 8 (m .snd) }) ≡ m
+    as-it-was = ap (λ (l : Lists). record { block = k; rcv = m .rcv; acks = m .acks; waiting = m .waiting; snd = l }) (lists-back (m .snd))
+
+    reads : Follows (callInput s bytes) m
+    unfolding inputOf
+    reads = go (leb 24 (length s)) (leb (length s) 1500) refl refl
+      where
+        go : (a b : Bool) → leb 24 (length s) ≡ a → leb (length s) 1500 ≡ b → Follows (callInput s bytes) m
+        go true true l h = follow (read l h)
+        go a false l h =
+            follow (unread (rw h (and-no (leb 24 (length s)))) _ (pick-true _ _ (input-fits m f) ∙ pick-true _ _ (lt-ltb 1500 (length s) (leb-false (length s) 1500 h))) as-it-was)
+        go false true l h =
+            follow (unread (rw l) _ (pick-true _ _ (input-fits m f) ∙ pick-false _ _ (le-ltb 1500 (length s) (leb-true (length s) 1500 h)) ∙ pick-true _ _ (lt-ltb (length s) 24 (leb-false 24 (length s) l))) as-it-was)
+
+  -- ---- the setters
+
+  mtu-beside : (mtu : ℕ) → Beside k (setMtu k mtu .block)
+  unfolding setMtu
+  mtu-beside mtu =
+      pick-of (λ (s : Set). Beside k (s .block)) (mtuSize mtu)
+      (λ h. record { settings = λ s. record { mtu = exactly-within 50 mtu 1500 .holds h; mss = refl }; probe = λ p. p; acklist = refl; sender = refl })
+      (unmoved refl)
+
+  mtu-receiver : (mtu : ℕ) → setMtu k mtu .block .receiver ≡ k .receiver
+  unfolding setMtu
+  mtu-receiver mtu = pick-of (λ (s : Set). s .block .receiver ≡ k .receiver) (mtuSize mtu) (λ h. refl) refl
+
+  -- every call does what its events do
+  pub follows : (c : Call) → Follows c m
+  unfolding leaves events
+  follows (callInput s bytes) = reads s bytes
+  follows (callSend bytes) = follow (sends bytes)
+  follows callMoveBuf = follow moves
+  follows callPeeksize = follow (still callPeeksize k (unmoved refl) refl refl refl)
+  follows (callRecv buf) = follow (receives buf)
+  follows (callSetWndsize sndwnd rcvwnd) = follow (windows sndwnd rcvwnd)
+  follows (callSetMtu mtu) = follow (still (callSetMtu mtu) (setMtu k mtu .block) (mtu-beside mtu) (mtu-receiver mtu) refl refl)
+  follows (callSetInterval interval) = follow (still (callSetInterval interval) _ (unmoved refl) refl refl refl)
+  follows (callSetNodelay nodelay interval resend nc) = follow (still (callSetNodelay nodelay interval resend nc) _ (unmoved refl) refl refl refl)
+  follows (callSetRxMinrto rto) = follow (still (callSetRxMinrto rto) _ (unmoved refl) refl refl refl)
+  follows (callSetFastResend fr) = follow (still (callSetFastResend fr) _ (unmoved refl) refl refl refl)
+  follows (callSetMaximumResendTimes n) = follow (still (callSetMaximumResendTimes n) _ (unmoved refl) refl refl refl)
+  follows callInputConv = follow (still callInputConv _ (unmoved refl) refl refl refl)
+  follows (callSetConv conv) = follow (still (callSetConv conv) _ (unmoved refl) refl refl refl)
+  follows callGet = follow (still callGet k (unmoved refl) refl refl refl)
