@@ -1,107 +1,87 @@
 -- What every call keeps of the block and its lent memory, so that no call is refused by 15; and that a call does to the receive side what its
 -- events do. Assumes nothing.
-use Prim.Native.Nat.{ℕ, _+_, _*_, _≤_, _<_, _^_}
+use Prim.Native.Nat.{ℕ, _≤_, _<_, _^_}
 use native.Mathlib.Omega.{arith}
-use native.Mathlib.Nat.{mul-comm}
 use mathlib.Core.Path.{_≡_, refl, sym, ap, _∙_, subst}
-use mathlib.Core.Bool.{Bool, true, false, cond, _&&_}
+use mathlib.Core.Bool.{Bool, true, false, _&&_}
 use mathlib.Core.List.{List, [], _∷_}
 use lib.ListN.{length, take}
-use lib.Dec.{leb}
+use lib.Dec.{leb, ltb}
 use borrow.Author.Tests.{leb-true, leb-false, lt-ltb, le-ltb}
-use Rattle.serial.specs.Branch.{pick, pick-true, pick-false}
-use Rattle.lent.specs.Records.{put}
-use Rattle.slots.specs.Pool.{Lists, Pool}
-use Rattle.wire.specs.LittleEndian.{Bytes}
+use Rattle.serial.specs.Branch.{pick-true, pick-false}
+use Rattle.ring.specs.Lists.{Lists}
+use Rattle.ring.specs.Records.{put}
+use Rattle.snd_ring.specs.Store.{Store, storeOf, Sound}
+use Rattle.snd_ring.proofs.Splits.{marks-length}
+use Rattle.wire.specs.LittleEndian.{Octets}
 use Rattle.block.specs.declared.Kcp.{Kcp}
 use Rattle.block.specs.declared.set.Set.{Set}
 use Rattle.block.specs.declared.probe.Probe.{Probe}
+use Rattle.block.specs.declared.receiver.Receiver.{Receiver}
 use Rattle.block.specs.declared.acklist.AckList.{AckList}
 use Rattle.block.specs.declared.sender.Sender.{Sender}
-use Rattle.block.specs.declared.refusal.Bytes.{Bytes as Counted}
-use Rattle.block.specs.declared.refusal.Bytes.the-variants.{Are, Refused as NoBytes}
 use Rattle.block.specs.Parts.{withReceiver, withSender}
-use Rattle.block.specs.Sizes.{PoolSizes, AckSizes, pairs, mtuSize}
-use Rattle.block.specs.WellFormed.{SettingsFit, ProbeFits, OwnNumbers}
+use Rattle.block.specs.Sizes.{RingSizes, sendSlots, AckSizes, pairs, mtuSize}
+use Rattle.block.specs.WellFormed.{SettingsFit, ProbeFits, AckListFits, SenderFits, OwnNumbers}
 use Rattle.block.specs.Setters.{setMtu}
-use Rattle.block.proofs.Exact.{exactly-within, exactly-le, ack-sizes}
-use Rattle.receiving.specs.Rules.{Answer, refused, gives, payloads, joined, given, recvAnswer, tooLarge, tells}
-use Rattle.receiving.specs.History.{Event, eventRecv, eventMove, eventWindow, AllSmall, Small, runFrom, leaves as ruleLeaves, hands as ruleHands, step as ruleStep}
+use Rattle.block.proofs.Exact.{exactly-within, exactly-le, own-numbers, ack-sizes}
+use Rattle.receiving.specs.Rules.{Answer, empty, expecting, longer, gives, payloads, joined, given, tooLarge, tells}
+use Rattle.receiving.specs.History.{Event, eventRecv, eventMove, eventWindow, AllSmall, runFrom, leaves as ruleLeaves, hands as ruleHands, step as ruleStep}
 use Rattle.receiving.specs.History as rules
-use Rattle.receive.specs.Memory.{seen, Side, messageAt, bytesAt, recvAt, answerAt, moveBufAt, probeAt, windowsAt}
-use Rattle.receive.specs.Fits.{receiveFits, Good}
-use Rattle.receive.proofs.Seen.{message-queued, seen-answer, seen-message, seen-bytes, seen-recv, recv-good, handed-length, seen-moveBuf, move-good}
+use Rattle.receive.specs.Memory.{seen, messageAt, bytesAt, recvBy, recvAt, answerAt, handedAt, moveBufAt, probeAt, widenedAt, receiveWindow, windowsAt}
+use Rattle.receive.specs.Fits.{receiveFits, ReceiveFits, Good}
+use Rattle.receive.proofs.Seen.{message-queued, seen-answer, seen-message, seen-bytes, seen-recv, recv-good, recv-next, seen-moveBuf, move-good, move-next}
 use Rattle.receive.proofs.Windows.{seen-window, window-good}
-use Rattle.receive.proofs.Exact.{exactly, fits-of, good-receiver}
-use Rattle.transmit.specs.Memory.{inUse, fastackAt}
-use Rattle.transmit.specs.Memory as Send
+use Rattle.receive.proofs.Exact.{exactly, lent-exactly, fits-of}
+use Rattle.transmit.specs.Memory.{Side}
 use Rattle.transmit.specs.Fits.{sendFits, SendFits}
 use Rattle.send.specs.Memory.{sendAt}
-use Rattle.transmit.proofs.Seen.{fastack-pool, fastack-length}
-use Rattle.transmit.proofs.Exact.{exactly as send-exactly}
-use Rattle.send.proofs.Keep.{send-keeps}
-use Rattle.input.specs.Segment.{Met}
-use Rattle.input.specs.Datagram.{ReadOut, nowOf, metOf, finished, walkOf, readAt}
-use Rattle.kcp.specs.Calls.{moveBufOf, recvOf, setWndsizeOf, ackFits, RecvOut, handedOver}
-use Rattle.kcp.specs.Send.{SendOut, sendOf}
-use Rattle.kcp.specs.Input.{inputFits, inputOf}
-use Rattle.history.specs.History.{Call, callInput, callSend, callMoveBuf, callPeeksize, callRecv, callSetWndsize, callSetMtu, callSetInterval, callSetNodelay, callSetRxMinrto, callSetFastResend, callSetMaximumResendTimes, callInputConv, callSetConv, callGet, Memory, withBlock, leaves, seenIn, isRead, unlessBad, events}
+use Rattle.transmit.proofs.Seen.{AsLarge, fastack-sound, fastack-slots}
+use Rattle.transmit.proofs.Exact.{exactly as send-exactly, lent-exactly as send-lent-exactly, fits-of as send-fits-of, sound-of, sender-fits-of}
+use Rattle.send.proofs.Keep.{send-sound, send-keeps, send-asks}
+use Rattle.input.specs.Segment.{Met, End, through, stopped}
+use Rattle.input.specs.Datagram.{ReadOut, metOf, finished, walkOf, readAt}
+use Rattle.kcp.specs.Calls.{moveBufOf, outBy, recvOf, setWndsizeOf, RecvOut}
+use Rattle.kcp_send.specs.Send.{SendOut, sendOf}
+use Rattle.kcp_input.specs.Input.{ackLent, inputFits, inputOf}
+use Rattle.history.specs.History.{Call, callInput, callSend, callMoveBuf, callPeeksize, callRecv, callSetWndsize, callSetMtu, callSetInterval, callSetNodelay, callSetRxMinrto, callSetFastResend, callSetMaximumResendTimes, callInputConv, callSetConv, callGet, listsOf, Memory, withBlock, leaves, seenIn, unlessBad, events}
 use Rattle.history.specs.Pushes.{pushesOf}
+use Rattle.history.proofs.Segments.{pick-of}
+use Rattle.history.proofs.Rising.{Flies, fastack-flies, send-flies}
+use Rattle.history.proofs.Stores.{lists-back, store-back, sizes-back}
 use Rattle.history.proofs.Walks.{seenMet, Fit, Stays, walks, pushes-small, walk-runs}
 
--- "at most A acks", "at most 1,500 waiting bytes", in memory of a size within the limits
-pub record AcksFit (list : AckList) (acks waiting : List ℕ) : Type 0 where
-  pub bytes : list .waiting ≤ 1500
-  pub sizes : AckSizes (length acks) (length waiting)
-  pub few : list .acks ≤ pairs (length acks)
-
--- all that the tests for 15 ask of the block and its lent memory
+-- all that the tests for 15 ask of the block and its lent memory; and the numbers in flight rise
 pub record Fine (m : Memory) : Type 0 where
   pub good : Good (m .block .receiver) (m .rcv)
-  pub sizes : PoolSizes 256 1024 2 (length (m .rcv .order)) (length (m .rcv .records)) (length (m .rcv .room))
-  pub settings : SettingsFit (m .block .settings)
-  pub probe : ProbeFits (m .block .probe)
-  pub acks : AcksFit (m .block .acklist) (m .acks) (m .waiting)
-  pub send : Pool 8 (inUse (m .block .sender)) (m .snd)
-  pub send-sizes : PoolSizes 128 1024 8 (length (m .snd .order)) (length (m .snd .records)) (length (m .snd .room))
+  pub low : m .block .receiver .«rcv_nxt» < 2 ^ 32
+  pub sizes : RingSizes 256 1024 (length (m .rcv .records)) 1 (length (m .rcv .records)) (length (m .rcv .room))
+  pub own : OwnNumbers (m .block)
+  pub sound : Sound 8 (m .block .sender .ring) (storeOf 8 (m .snd))
+  pub send-sizes : RingSizes 128 1024 (sendSlots (length (m .snd .records))) 9 (length (m .snd .records)) (length (m .snd .room))
+  pub flies : Flies (m .block .sender) (storeOf 8 (m .snd))
+  -- the limits of the ack memory, and "at most A acks"
+  pub ack-memory : AckSizes (length (m .acks)) (length (m .waiting))
+  pub few : m .block .acklist .acks ≤ pairs (length (m .acks))
 
 -- the call c at m leaves what its events leave
 pub record Follows (c : Call) (m : Memory) : Type 0 where
   pub fine : Fine (leaves c m)
-  pub slots : length (leaves c m .rcv .order) ≡ length (m .rcv .order)
+  pub slots : length (leaves c m .rcv .records) ≡ length (m .rcv .records)
   pub small : AllSmall (events c m)
-  pub sees : (r : rules.History) → r .now ≡ seenIn m → runFrom (length (m .rcv .order)) r (events c m) .now ≡ seenIn (leaves c m)
+  pub sees : (r : rules.Past) → r .now ≡ seenIn m → runFrom (length (m .rcv .records)) r (events c m) .now ≡ seenIn (leaves c m)
 
 -- the same of a memory and of events that the call is known to leave and to have
 record To (c : Call) (m n : Memory) (es : List Event) : Type 0 where
   is : leaves c m ≡ n
   has : events c m ≡ es
   fine : Fine n
-  slots : length (n .rcv .order) ≡ length (m .rcv .order)
+  slots : length (n .rcv .records) ≡ length (m .rcv .records)
   small : AllSmall es
-  sees : (r : rules.History) → r .now ≡ seenIn m → runFrom (length (m .rcv .order)) r es .now ≡ seenIn n
+  sees : (r : rules.Past) → r .now ≡ seenIn m → runFrom (length (m .rcv .records)) r es .now ≡ seenIn n
 
 follow : {c : Call} {m n : Memory} {es : List Event} → To c m n es → Follows c m
 follow x = record { fine = rw (x .is) (x .fine); slots = rw (x .is) (x .slots); small = rw (x .has) (x .small); sees = rw (x .is, x .has) (x .sees) }
-
--- a well-formed pool of as many slots as before is of a size within the limits as before
-sized : (least w : ℕ) {n : ℕ} (p : Lists) {q : Lists} → Pool w n q → length (q .order) ≡ length (p .order)
-    → PoolSizes least 1024 w (length (p .order)) (length (p .records)) (length (p .room))
-    → PoolSizes least 1024 w (length (q .order)) (length (q .records)) (length (q .room))
-sized least w p {q} x e z =
-    let l = z .slots .low in
-    let h = z .slots .high in
-    record {
-      slots = record { low = rw e l; high = rw e h };
-      recorded = x .records-size ∙ mul-comm (length (q .order)) w;
-      roomy = x .room-size ∙ mul-comm (length (q .order)) 1476;
-    }
-
--- what holds of either side holds of the choice
-pick-of : {A : Type 0} (Q : A → Type 0) (t : Bool) {a b : A} → (t ≡ true → Q a) → Q b → Q (pick t a b)
-unfolding pick
-pick-of Q true f g = f refl
-pick-of Q false f g = g
 
 and-no : (b : Bool) → (b && false) ≡ false
 and-no true = refl
@@ -110,30 +90,33 @@ and-no false = refl
 -- ---- no call is refused by 15
 
 module _ (m : Memory) (f : Fine m) where
-  own : OwnNumbers (m .block)
-  own = record { settings = f .settings; probe = f .probe; receiver = good-receiver (m .block .receiver) (m .rcv) (f .good); waiting = f .acks .bytes }
+  fits-receive : ReceiveFits (m .block) (m .rcv)
+  fits-receive = fits-of (f .sizes) (f .own) (f .good)
 
   pub receive-fits : receiveFits (m .block) (m .rcv) ≡ true
-  receive-fits = exactly (m .block) (m .rcv) .tests (fits-of (m .block) (m .rcv) (f .sizes) own (f .good))
+  receive-fits = exactly (m .block) (m .rcv) .tests fits-receive
 
   fits-send : SendFits (m .block) (m .snd)
-  fits-send = record { sizes = f .send-sizes; own = own; pool = f .send }
+  fits-send = send-fits-of (m .block) (m .snd) (f .own) (f .send-sizes) (f .sound)
 
   pub send-fits : sendFits (m .block) (m .snd) ≡ true
   send-fits = send-exactly (m .block) (m .snd) .tests fits-send
 
-  pub ack-fits : ackFits (m .block) (m .acks) (m .waiting) ≡ true
-  unfolding ackFits
+  ack-fits : ackLent (m .block .acklist) (m .acks) (m .waiting) ≡ true
+  unfolding ackLent
   ack-fits =
-      rw (ack-sizes (length (m .acks)) (length (m .waiting)) .tests (f .acks .sizes))
-      (exactly-le (m .block .acklist .acks) (pairs (length (m .acks))) .tests (f .acks .few))
+      rw (ack-sizes (length (m .acks)) (length (m .waiting)) .tests (f .ack-memory))
+      (exactly-le (m .block .acklist .acks) (pairs (length (m .acks))) .tests (f .few))
 
   pub input-fits : inputFits (m .block) (m .rcv) (m .acks) (m .waiting) (m .snd) ≡ true
   unfolding inputFits
-  input-fits = rw (receive-fits, send-fits) ack-fits
+  input-fits =
+      rw (own-numbers (m .block) .tests (f .own), lent-exactly (m .block .receiver) (m .rcv) .tests (fits-receive .lent), send-lent-exactly (m .block .sender) (m .snd) .tests (fits-send .lent))
+      ack-fits
 
--- ---- the calls that leave the send pool and the ack memory: what they keep beside the receive side
+-- ---- the calls
 
+-- what a call leaves beside the receive side
 record Beside (k n : Kcp) : Type 0 where
   settings : SettingsFit (k .settings) → SettingsFit (n .settings)
   probe : ProbeFits (k .probe) → ProbeFits (n .probe)
@@ -145,10 +128,10 @@ module _ (m : Memory) (f : Fine m) where
   k = m .block
 
   abbrev slots : ℕ
-  slots = length (m .rcv .order)
+  slots = length (m .rcv .records)
 
-  abbrev with-pool : Kcp → Lists → Memory
-  with-pool n q = record { block = n; rcv = q; acks = m .acks; waiting = m .waiting; snd = m .snd }
+  most : slots ≤ 1024
+  most = f .sizes .few .high
 
   -- the block's numbers beside the receive side that the test for 15 looks at
   abbrev aside : Kcp → ℕ × ℕ × Probe × AckList × Sender
@@ -165,15 +148,23 @@ module _ (m : Memory) (f : Fine m) where
         sender = ap (λ x. x .4) e;
       }
 
-  fine-beside : {n : Kcp} {q : Lists} → Beside k n → Good (n .receiver) q → length (q .order) ≡ slots → Fine (with-pool n q)
-  fine-beside b g e = record {
+  fine-beside : {n : Kcp} → Beside k n → Good (n .receiver) (m .rcv) → n .receiver .«rcv_nxt» < 2 ^ 32 → Fine (withBlock m n)
+  fine-beside {n} b g l = record {
     good = g;
-    sizes = sized 256 2 (m .rcv) (g .pool) e (f .sizes);
-    settings = b .settings (f .settings);
-    probe = b .probe (f .probe);
-    acks = subst (λ (a : AckList). AcksFit a (m .acks) (m .waiting)) (sym (b .acklist)) (f .acks);
-    send = subst (λ (s : Sender). Pool 8 (inUse s) (m .snd)) (sym (b .sender)) (f .send);
+    low = l;
+    sizes = f .sizes;
+    own = record {
+      settings = b .settings (f .own .settings);
+      probe = b .probe (f .own .probe);
+      receiver = g .fits;
+      sender = subst SenderFits (sym (b .sender)) (f .own .sender);
+      acklist = subst AckListFits (sym (b .acklist)) (f .own .acklist);
+    };
+    sound = subst (λ (s : Sender). Sound 8 (s .ring) (storeOf 8 (m .snd))) (sym (b .sender)) (f .sound);
     send-sizes = f .send-sizes;
+    flies = subst (λ (s : Sender). Flies s (storeOf 8 (m .snd))) (sym (b .sender)) (f .flies);
+    ack-memory = f .ack-memory;
+    few = subst (λ (a : AckList). a .acks ≤ pairs (length (m .acks))) (sym (b .acklist)) (f .few);
   }
 
   -- a call that leaves the receive side as it is
@@ -182,29 +173,29 @@ module _ (m : Memory) (f : Fine m) where
   still c n b same is none = record {
     is = is;
     has = none;
-    fine = fine-beside b (rw same (f .good)) refl;
+    fine = fine-beside b (rw same (f .good)) (rw same (f .low));
     slots = refl;
     small = tt;
     sees = λ r e. rw same e;
   }
 
   -- one event
-  once : (x : Event) (r : rules.History) (n : Memory) → r .now ≡ seenIn m → ruleLeaves slots x (seenIn m) ≡ seenIn n → runFrom slots r (x ∷ []) .now ≡ seenIn n
+  once : (x : Event) (r : rules.Past) (n : Memory) → r .now ≡ seenIn m → ruleLeaves slots x (seenIn m) ≡ seenIn n → runFrom slots r (x ∷ []) .now ≡ seenIn n
   unfolding runFrom ruleStep
   once x r n e g = ap (ruleLeaves slots x) e ∙ g
 
   one : (x : Event) → unlessBad m x ≡ x ∷ []
   one x = rw (receive-fits m f)
 
-  moves : To callMoveBuf m (withBlock m (withReceiver k (moveBufAt (k .receiver) (m .rcv)))) (eventMove ∷ [])
+  moves : To callMoveBuf m (withBlock m (withReceiver k (moveBufAt (k .receiver) (m .rcv .records)))) (eventMove ∷ [])
   unfolding leaves events moveBufOf ruleLeaves
   moves = record {
     is = ap (λ (s : Set). withBlock m (s .block)) (pick-true _ _ (receive-fits m f));
     has = one eventMove;
-    fine = fine-beside (unmoved refl) (move-good (k .receiver) (m .rcv) (f .good)) refl;
+    fine = fine-beside (unmoved refl) (move-good (f .good)) (move-next (k .receiver) (m .rcv .records));
     slots = refl;
     small = (tt, tt);
-    sees = λ r e. once eventMove r (withBlock m (withReceiver k (moveBufAt (k .receiver) (m .rcv)))) e (sym (seen-moveBuf (k .receiver) (m .rcv) (f .good .pool .many)));
+    sees = λ r e. once eventMove r (withBlock m (withReceiver k (moveBufAt (k .receiver) (m .rcv .records)))) e (sym (seen-moveBuf (f .good) (f .low)));
   }
 
   module _ (sndwnd rcvwnd : ℕ) where
@@ -218,72 +209,112 @@ module _ (m : Memory) (f : Fine m) where
         (λ h. unmoved refl)
         (unmoved refl)
 
+    window-next : windowsAt slots k sndwnd rcvwnd .block .receiver .«rcv_nxt» < 2 ^ 32
+    unfolding windowsAt receiveWindow widenedAt
+    window-next =
+        pick-of (λ (s : Set). s .block .receiver .«rcv_nxt» < 2 ^ 32) (tooLarge slots rcvwnd)
+        (λ h. f .low)
+        (pick-of (λ (r : Receiver). r .«rcv_nxt» < 2 ^ 32) (ltb 0 rcvwnd) (λ h. f .low) (f .low))
+
     windows : To (callSetWndsize sndwnd rcvwnd) m (withBlock m windowed) (eventWindow rcvwnd ∷ [])
     unfolding leaves events setWndsizeOf ruleLeaves
     windows = record {
       is = ap (λ (s : Set). withBlock m (s .block)) (pick-true _ _ (receive-fits m f));
       has = one (eventWindow rcvwnd);
-      fine = fine-beside window-beside (window-good k (m .rcv) sndwnd rcvwnd (f .good)) refl;
+      fine = fine-beside window-beside (window-good k sndwnd rcvwnd most (f .good)) window-next;
       slots = refl;
       small = (tt, tt);
       sees = λ r e. once (eventWindow rcvwnd) r (withBlock m windowed) e (sym (seen-window slots k sndwnd rcvwnd (m .rcv)));
     }
 
   module _ (buf : List ℕ) where
-    abbrev out : Side
-    out = recvAt (length buf) (k .receiver) (m .rcv)
+    abbrev out : Kcp
+    out = outBy (answerAt (length buf) (k .receiver) (m .rcv .records)) k (m .rcv) buf .block
 
-    probe-kept : ProbeFits (k .probe) → ProbeFits (probeAt (k .receiver) (out .receiver .queued) (k .probe))
-    unfolding probeAt
-    probe-kept p = pick-of ProbeFits (tells (k .receiver .«rcv_wnd») (k .receiver .queued) (out .receiver .queued)) (λ h. record { wait = p .wait }) p
+    out-beside : (a : Answer) → Beside k (outBy a k (m .rcv) buf .block)
+    unfolding outBy probeAt
+    out-beside empty = unmoved refl
+    out-beside expecting = unmoved refl
+    out-beside longer = unmoved refl
+    out-beside (gives n) = record {
+      settings = λ s. s;
+      probe = λ p. pick-of ProbeFits (tells (k .receiver .«rcv_wnd») (k .receiver .ring .queued) (handedAt (k .receiver) (m .rcv .records) .ring .queued)) (λ h. record { wait = p .wait }) p;
+      acklist = refl;
+      sender = refl;
+    }
 
-    out-length : length (out .pool .order) ≡ slots
+    out-by : (a : Answer) → outBy a k (m .rcv) buf .block .receiver ≡ recvBy a (k .receiver) (m .rcv) buf .receiver
+    unfolding outBy recvBy
+    out-by empty = refl
+    out-by expecting = refl
+    out-by longer = refl
+    out-by (gives n) = refl
+
+    out-is : out .receiver ≡ recvAt (k .receiver) (m .rcv) buf .receiver
     unfolding recvAt
-    out-length = handed-length (k .receiver) (m .rcv) (f .good .pool) (answerAt (length buf) (k .receiver) (m .rcv))
+    out-is = out-by (answerAt (length buf) (k .receiver) (m .rcv .records))
 
-    receives : To (callRecv buf) m (with-pool (handedOver k out) (out .pool)) (eventRecv (length buf) ∷ [])
+    receives : To (callRecv buf) m (withBlock m out) (eventRecv (length buf) ∷ [])
     unfolding leaves events recvOf ruleLeaves
     receives = record {
-      is = ap (λ (o : RecvOut). with-pool (o .block) (o .pool)) (pick-true _ _ (receive-fits m f));
+      is = ap (λ (o : RecvOut). withBlock m (o .block)) (pick-true _ _ (receive-fits m f));
       has = one (eventRecv (length buf));
-      fine = fine-beside (record { settings = λ s. s; probe = probe-kept; acklist = refl; sender = refl }) (recv-good (k .receiver) (m .rcv) (f .good) (length buf)) out-length;
-      slots = out-length;
+      fine =
+          fine-beside (out-beside (answerAt (length buf) (k .receiver) (m .rcv .records)))
+          (subst (λ (r : Receiver). Good r (m .rcv)) (sym out-is) (recv-good (f .good) buf most))
+          (subst (λ (r : Receiver). r .«rcv_nxt» < 2 ^ 32) (sym out-is) (recv-next (k .receiver) (m .rcv) buf (f .low)));
+      slots = refl;
       small = (tt, tt);
-      sees = λ r e. once (eventRecv (length buf)) r (with-pool (handedOver k out) (out .pool)) e (sym (seen-recv (k .receiver) (m .rcv) (f .good .pool) (length buf)));
+      sees = λ r e. once (eventRecv (length buf)) r (withBlock m out) e (sym (ap (λ (r : Receiver). seen r (m .rcv)) out-is ∙ seen-recv (f .good) buf (f .low)));
     }
 
     -- the buffer has the payloads of the segments handed out, and behind them what stood there
     pub received-bytes : recvOf k (m .rcv) buf .buf ≡ put buf 0 (joined (payloads (ruleHands (eventRecv (length buf)) (seenIn m))))
-    unfolding recvOf ruleHands bytesAt given put joined
+    unfolding recvOf ruleHands outBy bytesAt given put joined
     received-bytes =
         ap (λ (o : RecvOut). o .buf) (pick-true _ _ (receive-fits m f))
-        ∙ go (answerAt (length buf) (k .receiver) (m .rcv))
-        ∙ ap (λ (a : Answer). put buf 0 (joined (payloads (take (given a (seenIn m)) (seenIn m .queue))))) (sym (seen-answer (k .receiver) (m .rcv) (f .good .pool) (length buf)))
+        ∙ go (answerAt (length buf) (k .receiver) (m .rcv .records))
+        ∙ ap (λ (a : Answer). put buf 0 (joined (payloads (take (given a (seenIn m)) (seenIn m .queue))))) (sym (seen-answer (f .good) (length buf)))
       where
-        go : (a : Answer) → bytesAt a (k .receiver) (m .rcv) buf ≡ put buf 0 (joined (payloads (take (given a (seenIn m)) (seenIn m .queue))))
-        go (refused n) = refl
+        go : (a : Answer) → outBy a k (m .rcv) buf .buf ≡ put buf 0 (joined (payloads (take (given a (seenIn m)) (seenIn m .queue))))
+        go empty = refl
+        go expecting = refl
+        go longer = refl
         go (gives n) =
-            let count = seen-message (k .receiver) (m .rcv) (f .good .pool) in
-            let bytes = seen-bytes (k .receiver) (m .rcv) (f .good .pool) (messageAt (k .receiver) (m .rcv)) (message-queued (k .receiver) (m .rcv) (f .good .pool)) in
+            let count = seen-message (k .receiver) (m .rcv) in
+            let bytes = seen-bytes (k .receiver) (m .rcv) (messageAt (k .receiver) (m .rcv .records)) (message-queued (k .receiver) (m .rcv .records)) in
             ap (put buf 0) (bytes ∙ ap (λ (n : ℕ). joined (payloads (take n (seenIn m .queue)))) (sym count))
 
   -- ---- send
 
   module _ (bytes : List ℕ) where
     abbrev sent : SendOut → Memory
-    sent o = record { block = o .block; rcv = m .rcv; acks = m .acks; waiting = m .waiting; snd = o .pool }
+    sent o = record { block = o .block; rcv = m .rcv; acks = m .acks; waiting = m .waiting; snd = listsOf (o .store) }
 
-    abbrev after : Send.Side
-    after = sendAt (k .settings .mss) (k .settings .stream) bytes (k .sender) (m .snd)
+    abbrev after : Side
+    after = sendAt (k .settings .mss) (k .settings .stream) bytes (k .sender) (storeOf 8 (m .snd))
 
-    sends : To (callSend bytes) m (record { block = withSender k (after .sender); rcv = m .rcv; acks = m .acks; waiting = m .waiting; snd = after .pool }) []
+    sends : To (callSend bytes) m (record { block = withSender k (after .sender); rcv = m .rcv; acks = m .acks; waiting = m .waiting; snd = listsOf (after .store) }) []
     unfolding leaves events sendOf runFrom
     sends =
-        let kept = send-keeps k (m .snd) (fits-send m f) (k .settings .stream) bytes in
+        let narrow = send-asks k (m .snd) (fits-send m f) .1 .1 in
+        let sound = send-sound (k .settings .mss) (k .settings .stream) bytes (k .sender) (storeOf 8 (m .snd)) (f .sound) narrow in
+        let back = store-back (after .store) (sound .shaped .sized) in
+        let kept = send-keeps k (m .snd) (fits-send m f) (k .settings .stream) bytes (listsOf (after .store)) back in
         record {
           is = ap sent (pick-true _ _ (send-fits m f));
           has = refl;
-          fine = record { good = f .good; sizes = f .sizes; settings = f .settings; probe = f .probe; acks = f .acks; send = kept .pool; send-sizes = kept .sizes };
+          fine = record {
+            good = f .good;
+            low = f .low;
+            sizes = f .sizes;
+            own = kept .own;
+            sound = sound-of kept;
+            send-sizes = kept .lent .sizes;
+            flies = subst (Flies (after .sender)) (sym back) (send-flies (k .sender) (storeOf 8 (m .snd)) (f .sound) (f .flies) (k .settings .mss) (k .settings .stream) bytes narrow);
+            ack-memory = f .ack-memory;
+            few = f .few;
+          };
           slots = refl;
           small = tt;
           sees = λ r g. g;
@@ -291,61 +322,81 @@ module _ (m : Memory) (f : Fine m) where
 
   -- ---- input
 
-  module _ (s : List ℕ) (bytes : Bytes s) where
+  module _ (s : List ℕ) (bytes : Octets s) where
     abbrev start : Met
-    start = metOf k (m .rcv) (m .acks) (m .snd)
+    start = metOf k (m .rcv) (m .acks) (storeOf 8 (m .snd))
 
     start-fit : Fit start
-    start-fit = record { sane = record { good = f .good; pool = f .send }; few = f .acks .few }
+    start-fit = record { good = f .good; low = f .low; sound = f .sound; flies = f .flies; few = f .few }
 
     abbrev arrived : ReadOut → Memory
-    arrived o = record { block = o .block; rcv = o .rcv; acks = o .acks; waiting = m .waiting; snd = o .snd }
+    arrived o = record { block = o .block; rcv = o .rcv; acks = o .acks; waiting = m .waiting; snd = listsOf (o .snd) }
 
-    -- what a walk leaves is fine, with a send pool that is well formed
-    fine-met : (n : Met) → Stays start n → (b : Kcp) → b .settings .mtu ≡ k .settings .mtu → b .settings .mss ≡ k .settings .mss
-        → b .receiver ≡ n .parts .receiver → b .acklist ≡ n .parts .acklist → b .probe ≡ n .parts .probe → b .sender ≡ n .parts .sender
-        → (q : Lists) → Pool 8 (inUse (n .parts .sender)) q → length (q .order) ≡ length (n .snd .order)
-        → Fine (record { block = b; rcv = n .rcv; acks = n .acks; waiting = m .waiting; snd = q })
-    fine-met n x b mtu mss receiver acklist probe sender q pool same = record {
-      good = rw receiver (x .fit .sane .good);
-      sizes = sized 256 2 (m .rcv) (x .fit .sane .good .pool) (x .kept .rcv) (f .sizes);
-      settings = record { mtu = rw mtu (f .settings .mtu); mss = mss ∙ f .settings .mss ∙ rw mtu };
-      probe = rw probe (record { wait = rw (x .kept .probe) (f .probe .wait) });
-      acks = rw acklist (record { bytes = rw (x .kept .waiting) (f .acks .bytes); sizes = rw (x .kept .acks) (f .acks .sizes); few = x .fit .few });
-      send = rw sender pool;
-      send-sizes = sized 128 8 (m .snd) pool (same ∙ x .kept .snd) (f .send-sizes);
-    }
+    -- what a walk leaves is fine, with a send store that is sound
+    module _ (n : Met) (x : Stays start n) where
+      fine-met : (b : Kcp) → b .settings ≡ n .block .settings → b .receiver ≡ n .block .receiver → b .acklist ≡ n .block .acklist → b .probe ≡ n .block .probe
+          → b .sender ≡ n .block .sender
+          → (q : Store) → Sound 8 (n .block .sender .ring) q → Flies (n .block .sender) q → AsLarge (n .snd) q
+          → Fine (record { block = b; rcv = n .rcv; acks = n .acks; waiting = m .waiting; snd = listsOf q })
+      fine-met b settings receiver acklist probe sender q sound flies large =
+          let back = store-back q (sound .shaped .sized) in
+          let whole : AsLarge (storeOf 8 (m .snd)) q =
+          record { marks = large .marks ∙ x .kept .snd .marks; rows = large .rows ∙ x .kept .snd .rows; room = large .room ∙ x .kept .snd .room } in
+          let few = rw (x .kept .acks) at (x .fit .few) in
+          let many = f .ack-memory .listed .high in
+          let slim = f .send-sizes .few .high in
+          let marks = whole .marks ∙ marks-length 8 (m .snd) in
+          let mtu = x .kept .mtu in
+          record {
+            good = rw receiver (x .fit .good);
+            low = rw receiver (x .fit .low);
+            sizes = rw (x .kept .records, x .kept .room) (f .sizes);
+            own = record {
+              settings = rw settings (record { mtu = rw mtu (f .own .settings .mtu); mss = x .kept .mss ∙ f .own .settings .mss ∙ rw mtu });
+              probe = rw probe (record { wait = rw (x .kept .probe) (f .own .probe .wait) });
+              receiver = rw receiver (x .fit .good .fits);
+              sender = rw sender (sender-fits-of (n .block .sender) q sound (omega arith));
+              acklist = rw acklist (record { acks = omega arith; waiting = rw (x .kept .waiting) (f .own .acklist .waiting) });
+            };
+            sound = rw (sender, back) sound;
+            send-sizes = sizes-back (m .snd) q whole (f .send-sizes);
+            flies = rw (sender, back) flies;
+            ack-memory = rw (x .kept .acks) (f .ack-memory);
+            few = rw acklist (x .fit .few);
+          }
 
-    fine-finished : (n : Met) → Stays start n → (a : Counted) → Fine (arrived (finished k n a))
+      fine-finished : (e : End) → Fine (arrived (finished k n e))
+      unfolding finished
+      fine-finished (through c) =
+          fine-met _ refl refl refl refl refl _ (fastack-sound (n .latest) (n .block .sender) (n .snd) (x .fit .sound))
+          (fastack-flies (n .block .sender) (n .snd) (x .fit .sound) (x .fit .flies) (n .latest))
+          (fastack-slots (n .latest) (n .block .sender) (n .snd) (x .fit .sound))
+      fine-finished (stopped why) = fine-met _ refl refl refl refl refl _ (x .fit .sound) (x .fit .flies) (record { marks = refl; rows = refl; room = refl })
+
+    finished-seen : (n : Met) (e : End) → seenIn (arrived (finished k n e)) ≡ seenMet n
     unfolding finished
-    fine-finished n x (Are c) =
-        fine-met n x _ refl refl refl refl refl refl _ (fastack-pool (n .parts .sender) (n .snd) (x .fit .sane .pool) (n .parts .latest)) (fastack-length (n .parts .sender) (n .snd) (x .fit .sane .pool) (n .parts .latest))
-    fine-finished n x (NoBytes why) = fine-met n x _ refl refl refl refl refl refl _ (x .fit .sane .pool) refl
+    finished-seen n (through c) = refl
+    finished-seen n (stopped why) = refl
 
-    finished-seen : (n : Met) (a : Counted) → seenIn (arrived (finished k n a)) ≡ seenMet n
+    finished-slots : (n : Met) (e : End) → length (arrived (finished k n e) .rcv .records) ≡ length (n .rcv .records)
     unfolding finished
-    finished-seen n (Are c) = refl
-    finished-seen n (NoBytes why) = refl
-
-    finished-slots : (n : Met) (a : Counted) → length (arrived (finished k n a) .rcv .order) ≡ length (n .rcv .order)
-    unfolding finished
-    finished-slots n (Are c) = refl
-    finished-slots n (NoBytes why) = refl
+    finished-slots n (through c) = refl
+    finished-slots n (stopped why) = refl
 
     -- it is read
-    read : leb 24 (length s) ≡ true → leb (length s) 1500 ≡ true → To (callInput s bytes) m (arrived (readAt k (m .rcv) (m .acks) (m .snd) s)) (pushesOf (nowOf k) s start)
+    read : leb 24 (length s) ≡ true → leb (length s) 1500 ≡ true → To (callInput s bytes) m (arrived (readAt k (m .rcv) (m .acks) (storeOf 8 (m .snd)) s)) (pushesOf s start)
     unfolding leaves events inputOf readAt
     read l h =
         let short = leb-true (length s) 1500 h in
-        let x = walks (nowOf k) s short bytes slots start start-fit in
-        let w = walkOf (nowOf k) s start in
+        let x = walks s short bytes slots start start-fit in
+        let w = walkOf s start in
         record {
           is = ap arrived (pick-true _ _ (input-fits m f) ∙ pick-false _ _ (le-ltb 1500 (length s) short) ∙ pick-false _ _ (le-ltb (length s) 24 (leb-true 24 (length s) l)));
           has = rw (input-fits m f, l, h);
-          fine = fine-finished (w .met) x (w .answer);
-          slots = finished-slots (w .met) (w .answer) ∙ x .kept .rcv;
-          small = pushes-small (nowOf k) s short bytes slots start start-fit;
-          sees = λ r e. walk-runs (nowOf k) s short bytes slots start start-fit r e ∙ sym (finished-seen (w .met) (w .answer));
+          fine = fine-finished (w .met) x (w .end);
+          slots = finished-slots (w .met) (w .end) ∙ x .kept .records;
+          small = pushes-small s short bytes slots start start-fit;
+          sees = λ r e. walk-runs s short bytes slots start start-fit r e ∙ sym (finished-seen (w .met) (w .end));
         }
 
     -- it is refused by 11 or by 1
@@ -360,6 +411,9 @@ module _ (m : Memory) (f : Fine m) where
       sees = λ r d. d;
     }
 
+    as-it-was : arrived (record { block = k; answer = inputOf k (m .rcv) (m .acks) (m .waiting) (m .snd) s .answer; skipped = 0; rcv = m .rcv; acks = m .acks; snd = storeOf 8 (m .snd) }) ≡ m
+    as-it-was = ap (λ (l : Lists). record { block = k; rcv = m .rcv; acks = m .acks; waiting = m .waiting; snd = l }) (lists-back (m .snd))
+
     reads : Follows (callInput s bytes) m
     unfolding inputOf
     reads = go (leb 24 (length s)) (leb (length s) 1500) refl refl
@@ -367,9 +421,9 @@ module _ (m : Memory) (f : Fine m) where
         go : (a b : Bool) → leb 24 (length s) ≡ a → leb (length s) 1500 ≡ b → Follows (callInput s bytes) m
         go true true l h = follow (read l h)
         go a false l h =
-            follow (unread (rw h (and-no (leb 24 (length s)))) _ (pick-true _ _ (input-fits m f) ∙ pick-true _ _ (lt-ltb 1500 (length s) (leb-false (length s) 1500 h))) refl)
+            follow (unread (rw h (and-no (leb 24 (length s)))) _ (pick-true _ _ (input-fits m f) ∙ pick-true _ _ (lt-ltb 1500 (length s) (leb-false (length s) 1500 h))) as-it-was)
         go false true l h =
-            follow (unread (rw l) _ (pick-true _ _ (input-fits m f) ∙ pick-false _ _ (le-ltb 1500 (length s) (leb-true (length s) 1500 h)) ∙ pick-true _ _ (lt-ltb (length s) 24 (leb-false 24 (length s) l))) refl)
+            follow (unread (rw l) _ (pick-true _ _ (input-fits m f) ∙ pick-false _ _ (le-ltb 1500 (length s) (leb-true (length s) 1500 h)) ∙ pick-true _ _ (lt-ltb (length s) 24 (leb-false 24 (length s) l))) as-it-was)
 
   -- ---- the setters
 

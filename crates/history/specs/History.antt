@@ -1,30 +1,34 @@
 -- Demand 3 over the calls themselves: every call that there is, with any arguments, refused ones among them, from a fresh block whose lent
 -- memory only these calls touch. What each leaves is what its contract says (kcp/specs, block/specs/Setters). Assumes nothing.
-use Prim.Native.Nat.{ℕ}
+use Prim.Native.Nat.{ℕ, _+_}
 use mathlib.Core.Path.{_≡_}
 use mathlib.Core.Bool.{Bool, cond, _&&_}
-use mathlib.Core.List.{List, [], _∷_}
+use mathlib.Core.List.{List, [], _∷_, _++_}
 use lib.ListN.{length}
 use lib.Dec.{leb}
 use lib.IntN.{ℤ}
-use Rattle.wire.specs.LittleEndian.{Bytes}
-use Rattle.slots.specs.Pool.{Lists}
+use Rattle.serial.specs.Window.{distance}
+use Rattle.wire.specs.LittleEndian.{Octets}
+use Rattle.ring.specs.Lists.{Lists, lists}
+use Rattle.ring.specs.Counting.{count}
+use Rattle.snd_ring.specs.Store.{Store, storeOf}
 use Rattle.block.specs.declared.Kcp.{Kcp}
 use Rattle.block.specs.Setters.{setMtu, setInterval, setNodelay, setRxMinrto, setFastResend, setMaximumResendTimes, inputConv, setConv}
-use Rattle.receiving.specs.Rules.{Receiving}
+use Rattle.receiving.specs.Rules.{Receiving, Ordered}
 use Rattle.receiving.specs.History.{Event, eventRecv, eventMove, eventWindow, runFrom, Sound}
 use Rattle.receiving.specs.History as rules
-use Rattle.receive.specs.Memory.{seen, inUse}
+use Rattle.receive.specs.Memory.{seen}
+use Rattle.transmit.specs.Memory.{flyingNumbers}
 use Rattle.receive.specs.Fits.{receiveFits}
-use Rattle.input.specs.Datagram.{nowOf, metOf}
+use Rattle.input.specs.Datagram.{metOf}
 use Rattle.kcp.specs.Calls.{moveBufOf, recvOf, setWndsizeOf}
-use Rattle.kcp.specs.Send.{sendOf}
-use Rattle.kcp.specs.Input.{inputFits, inputOf}
+use Rattle.kcp_send.specs.Send.{sendOf}
+use Rattle.kcp_input.specs.Input.{inputFits, inputOf}
 use Rattle.history.specs.Pushes.{pushesOf}
 
 -- the bytes of a datagram are below 256, as any are; a getter, wait_snd among them, and peeksize leave all
 pub data Call : Type 0 where
-  callInput : (datagram : List ℕ) → Bytes datagram → Call
+  callInput : (datagram : List ℕ) → Octets datagram → Call
   callSend : List ℕ → Call
   callMoveBuf : Call
   callPeeksize : Call
@@ -40,7 +44,11 @@ pub data Call : Type 0 where
   callSetConv : ℕ → Call
   callGet : Call
 
--- the block, and the memory that it is lent: the receive pool, the ack memory and the send pool
+-- the two lent lists of a send side that has these marks, rows and bytes
+abbrev pub listsOf : Store → Lists
+listsOf m = lists (m .marks ++ m .rows) (m .room)
+
+-- the block, and the memory that it is lent: that of the receive side, the ack memory and that of the send side
 pub record Memory : Type 0 where
   pub block : Kcp
   pub rcv : Lists
@@ -55,15 +63,15 @@ withBlock m k = record { block = k; rcv = m .rcv; acks = m .acks; waiting = m .w
 unfoldable pub leaves : Call → Memory → Memory
 leaves (callInput s bytes) m =
     let o = inputOf (m .block) (m .rcv) (m .acks) (m .waiting) (m .snd) s in
-    record { block = o .block; rcv = o .rcv; acks = o .acks; waiting = m .waiting; snd = o .snd }
+    record { block = o .block; rcv = o .rcv; acks = o .acks; waiting = m .waiting; snd = listsOf (o .snd) }
 leaves (callSend bytes) m =
     let o = sendOf (m .block) (m .snd) bytes in
-    record { block = o .block; rcv = m .rcv; acks = m .acks; waiting = m .waiting; snd = o .pool }
+    record { block = o .block; rcv = m .rcv; acks = m .acks; waiting = m .waiting; snd = listsOf (o .store) }
 leaves callMoveBuf m = withBlock m (moveBufOf (m .block) (m .rcv) .block)
 leaves callPeeksize m = m
 leaves (callRecv buf) m =
     let o = recvOf (m .block) (m .rcv) buf in
-    record { block = o .block; rcv = o .pool; acks = m .acks; waiting = m .waiting; snd = m .snd }
+    record { block = o .block; rcv = m .rcv; acks = m .acks; waiting = m .waiting; snd = m .snd }
 leaves (callSetWndsize sndwnd rcvwnd) m = withBlock m (setWndsizeOf (m .block) (m .rcv) sndwnd rcvwnd .block)
 leaves (callSetMtu mtu) m = withBlock m (setMtu (m .block) mtu .block)
 leaves (callSetInterval interval) m = withBlock m (setInterval (m .block) interval)
@@ -90,7 +98,7 @@ abbrev pub unlessBad : Memory → Event → List Event
 unlessBad m e = cond (receiveFits (m .block) (m .rcv)) (e ∷ []) []
 
 unfoldable pub events : Call → Memory → List Event
-events (callInput s bytes) m = cond (isRead m s) (pushesOf (nowOf (m .block)) s (metOf (m .block) (m .rcv) (m .acks) (m .snd))) []
+events (callInput s bytes) m = cond (isRead m s) (pushesOf s (metOf (m .block) (m .rcv) (m .acks) (storeOf 8 (m .snd)))) []
 events (callSend bytes) m = []
 events callMoveBuf m = unlessBad m eventMove
 events callPeeksize m = []
@@ -110,10 +118,10 @@ events callGet m = []
 
 pub record History : Type 0 where
   pub now : Memory
-  pub told : rules.History
+  pub past : rules.Past
 
 unfoldable pub step : History → Call → History
-step h c = record { now = leaves c (h .now); told = runFrom (length (h .now .rcv .order)) (h .told) (events c (h .now)) }
+step h c = record { now = leaves c (h .now); past = runFrom (length (h .now .rcv .records)) (h .past) (events c (h .now)) }
 
 unfoldable pub run : History → List Call → History
 run h [] = h
@@ -121,13 +129,25 @@ run h (c ∷ calls) = run (step h c) calls
 
 -- nothing has happened yet
 unfoldable pub begun : Memory → History
-begun m = record { now = m; told = rules.begun }
+begun m = record { now = m; past = rules.begun }
+
+-- slots in use: those of the queue, and those in reach whose word is a segment's
+abbrev pub slotsUsed : Memory → ℕ
+slotsUsed m =
+    let r = m .block .receiver .ring in
+    r .queued + count 65536 (m .rcv .records) (r .start) (r .queued) (r .reach)
+
+-- numbers in flight rise in [snd_una, snd_nxt)
+abbrev pub Rising : Memory → Type 0
+Rising m =
+    Ordered (m .block .sender .«snd_una») 0 (distance (m .block .sender .«snd_una») (m .block .sender .«snd_nxt»)) (flyingNumbers (m .block .sender .ring) (storeOf 8 (m .snd)))
 
 -- demand 3
 pub record SoundCalls (h : History) : Type 0 where
   -- what the rules tell is what is seen in the memory
-  pub sees : h .told .now ≡ seenIn (h .now)
+  pub sees : h .past .now ≡ seenIn (h .now)
   -- order of the held segments, what is handed out, slots in use
-  pub sound : Sound (length (h .now .rcv .order)) (h .told)
-  -- the slots in use are those that the block counts
-  pub slots : rules.inUse (seenIn (h .now)) ≡ inUse (h .now .block .receiver)
+  pub sound : Sound (length (h .now .rcv .records)) (h .past)
+  -- the slots in use are those that the memory shows
+  pub slots : rules.inUse (seenIn (h .now)) ≡ slotsUsed (h .now)
+  pub rising : Rising (h .now)

@@ -1,0 +1,34 @@
+-- The two lent lists of the send side and their marks, rows and room: each gives back the other. Assumes nothing.
+use Prim.Native.Nat.{_+_, _/_}
+use native.Mathlib.Omega.{arith}
+use mathlib.Core.Path.{_≡_, refl, sym, ap, _∙_}
+use mathlib.Core.List.{_++_}
+use lib.ListN.{length, length-append}
+use lib.Seq.{take-at, drop-at}
+use Rattle.ring.specs.Lists.{Lists}
+use Rattle.snd_ring.specs.Store.{Store, storeOf, Sized}
+use Rattle.snd_ring.proofs.Splits.{store-records, store-room}
+use Rattle.transmit.proofs.Seen.{AsLarge}
+use Rattle.block.specs.Sizes.{sendSlots, RingSizes}
+use Rattle.history.specs.History.{listsOf}
+
+pub lists-back : (l : Lists) → listsOf (storeOf 8 l) ≡ l
+lists-back l = let a = store-records 8 l in let b = store-room 8 l in rw (a, b)
+
+pub store-back : (m : Store) → Sized 8 m → storeOf 8 (listsOf m) ≡ m
+unfolding storeOf
+store-back m z =
+    let r = z .rows-size in
+    let l = length-append (m .marks) (m .rows) in
+    let n : length (m .marks ++ m .rows) / 9 ≡ length (m .marks) = omega arith in
+    rw (n, take-at (m .marks) (m .rows) (length (m .marks)) refl, drop-at (m .marks) (m .rows) (length (m .marks)) refl)
+
+-- a store that is as large as that of lists within the limits has lists within the limits
+pub sizes-back : (l : Lists) (m : Store) → AsLarge (storeOf 8 l) m
+    → RingSizes 128 1024 (sendSlots (length (l .records))) 9 (length (l .records)) (length (l .room))
+    → RingSizes 128 1024 (sendSlots (length (listsOf m .records))) 9 (length (listsOf m .records)) (length (listsOf m .room))
+sizes-back l m x z =
+    let a : length (m .marks ++ m .rows) ≡ length (l .records) =
+    length-append (m .marks) (m .rows) ∙ rw (x .marks, x .rows) (sym (length-append (storeOf 8 l .marks) (storeOf 8 l .rows)) ∙ ap length (store-records 8 l)) in
+    let b : length (m .room) ≡ length (l .room) = x .room ∙ ap length (store-room 8 l) in
+    rw (a, b) z
