@@ -1,6 +1,6 @@
 -- One datagram: "Segments are read while 24 bytes or more remain; a shorter tail is ignored. The answer is the bytes consumed and the number of
 -- skipped pushes (0 to 62), the latter also beside a refusal." "An input stops at the first refused segment, and then the next two steps don't
--- run. (a) .. (b) .." For a datagram of 24 to 1,500 bytes and memory that is well formed; 15, 11 and 1 are kcp's (kcp/specs/Input).
+-- run. (a) .. (b) .." For a datagram of 24 to 1,500 bytes and memory that is well formed; 15, 11 and 1 are the call's (kcp_input/specs/Input).
 -- Assumes nothing.
 use Prim.Native.Nat.{ℕ, zero, suc, _+_, _-_}
 use mathlib.Core.Path.{_≡_}

@@ -7,7 +7,7 @@ ghost use Rattle.block.specs.Fresh.{freshPlain, freshStream};
 ghost use Rattle.block.specs.Setters.{setMtu, setInterval, setNodelay, setRxMinrto, setFastResend, setMaximumResendTimes, inputConv, setConv};
 ghost use Rattle.host.specs.Words.{WordsSet, WordsMade};
 
-// A fresh block that keeps messages apart. 0, or 15 where there are not words or a lent size is outside the limits.
+// A fresh block that keeps messages apart. 0, or 15 where there are not thirty-five words or a lent size is outside the limits.
 #[no_mangle]
 pub extern "C" fn kcp_new(
     words: &mut [u32],

@@ -84,7 +84,7 @@ impl Latest {
         }
     }
 
-    // Whether an ack was seen and its number is in flight.
+    // Whether an ack was seen and its number lies from snd_una on and before snd_nxt.
     pub fn counts(self, una: u32, next: u32) -> bool
         ensures { λ r. ⌜ r ≡ counts self una next ⌝ }
     {

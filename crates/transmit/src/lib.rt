@@ -162,7 +162,7 @@ fn raise(ring: SndRing, records: &mut [u32], max_ack: u32, latest_ts: u32)
     }
 }
 
-// What the acks of a datagram do to the flight records, if the highest of them is in flight.
+// What the acks of a datagram do to the flight records, if max_ack lies in what was sent and is not acked.
 pub fn parse_fastack(sender: Sender, records: &mut [u32], latest: Latest)
     requires { ⌜ Lies sender (now records) ⌝ }
     ensures { λ _. ⌜ ((room : List ℕ) → storeOf 8 (lists (now (records .exit)) room) ≡ fastackAt latest sender (storeOf 8 (lists (now (records .entry)) room))) ⌝ }

@@ -110,7 +110,7 @@ blockOf l =
 unfoldable pub isBlock : List ℕ → Bool
 isBlock l = eqb (length l) 35 && ltb (at l 0) 64
 
--- ---- the words l with some of another block's: each call writes those that it may change, and no others
+-- ---- the words l with some of another block's: a call that changes few writes these and no others
 
 unfoldable pub withFlags : Kcp → List ℕ → List ℕ
 withFlags k l = set l 0 (flagsOf k)

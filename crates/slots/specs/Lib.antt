@@ -1,4 +1,0 @@
-pub mod Entries
-pub mod Marks
-pub mod Pool
-pub mod Examples
