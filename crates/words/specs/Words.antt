@@ -127,12 +127,5 @@ withSndWords r l = set (set (set (set l 9 (r .start)) 10 (r .reach)) 11 (r .flyi
 unfoldable pub withWindows : Kcp → List ℕ → List ℕ
 withWindows k l = set (set l 5 (pair (k .receiver .«rcv_wnd») (k .receiver .largest))) 19 (pair (k .congestion .«snd_wnd») (k .congestion .«rmt_wnd»))
 
-unfoldable pub withGrowth : Congestion → List ℕ → List ℕ
-withGrowth c l =
-    set (set (set (set l 19 (pair (c .«snd_wnd») (c .«rmt_wnd»))) 20 (pair (c .cwnd) (c .ssthresh))) 21 (c .incr % 4294967296)) 22 (c .incr / 4294967296)
-
-unfoldable pub withTimes : Estimator → List ℕ → List ℕ
-withTimes e l = set (set (set (set l 23 (e .srtt)) 24 (e .rttval)) 25 (e .rto)) 26 (e .minrto)
-
 unfoldable pub withNodelayWords : Kcp → List ℕ → List ℕ
 withNodelayWords k l = set (set (set (set l 0 (flagsOf k)) 26 (k .estimator .minrto)) 28 (k .clock .interval)) 32 (k .settings .fastresend)

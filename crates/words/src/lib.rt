@@ -4,7 +4,7 @@ ghost use mathlib.Core.Path.{_≡_};
 ghost use mathlib.Core.Bool.{_&&_};
 ghost use Prim.Native.Nat.{_+_, _*_, _/_, _%_, _<_};
 ghost use lib.ListN.{length, set};
-ghost use Rattle.words.specs.Words.{bit, pair, flagsOf, wordsOf, at, low, high, flag, settingsOf, clockOf, estimatorOf, congestionOf, probeOf, receiverOf, acklistOf, senderOf, blockOf, isBlock, withFlags, withMtuWords, withRcvWords, withSndWords, withWindows, withGrowth, withTimes, withNodelayWords};
+ghost use Rattle.words.specs.Words.{bit, pair, flagsOf, wordsOf, at, low, high, flag, settingsOf, clockOf, estimatorOf, congestionOf, probeOf, receiverOf, acklistOf, senderOf, blockOf, isBlock, withFlags, withMtuWords, withRcvWords, withSndWords, withWindows, withNodelayWords};
 use block::Kcp;
 use block::acklist::AckList;
 use block::clock::Clock;
@@ -352,29 +352,7 @@ pub fn put_windows(block: Kcp, words: &mut [u32])
     words[19] = pair(block.congestion.snd_wnd, block.congestion.rmt_wnd);
 }
 
-// Writes the windows of the sending side, and incr.
-pub fn put_congestion(congestion: Congestion, words: &mut [u32])
-    requires { ⌜ length (now words) ≡ 35 ⌝ }
-    ensures { λ _. ⌜ now (words .exit) ≡ withGrowth congestion (now (words .entry)) ⌝ }
-{
-    words[19] = pair(congestion.snd_wnd, congestion.rmt_wnd);
-    words[20] = pair(congestion.cwnd, congestion.ssthresh);
-    words[21] = low_half(congestion.incr);
-    words[22] = high_half(congestion.incr);
-}
-
-// Writes the estimator.
-pub fn put_estimator(estimator: Estimator, words: &mut [u32])
-    requires { ⌜ length (now words) ≡ 35 ⌝ }
-    ensures { λ _. ⌜ now (words .exit) ≡ withTimes estimator (now (words .entry)) ⌝ }
-{
-    words[23] = estimator.srtt;
-    words[24] = estimator.rttval;
-    words[25] = estimator.rto;
-    words[26] = estimator.minrto;
-}
-
-// Writes one word: the bits of the probe, the count of acks, the conv, snd_una, rx_minrto, the interval, fastresend or dead_link.
+// Writes one word: the bits of the probe, the conv, rx_minrto, the interval, fastresend or dead_link.
 pub fn put_probe_bits(words: &mut [u32], x: u32)
     requires { ⌜ length (now words) ≡ 35 ⌝ }
     ensures { λ _. ⌜ now (words .exit) ≡ set (now (words .entry)) 15 x ⌝ }
@@ -382,25 +360,11 @@ pub fn put_probe_bits(words: &mut [u32], x: u32)
     words[15] = x;
 }
 
-pub fn put_acks(words: &mut [u32], x: u32)
-    requires { ⌜ length (now words) ≡ 35 ⌝ }
-    ensures { λ _. ⌜ now (words .exit) ≡ set (now (words .entry)) 13 x ⌝ }
-{
-    words[13] = x;
-}
-
 pub fn put_conv(words: &mut [u32], x: u32)
     requires { ⌜ length (now words) ≡ 35 ⌝ }
     ensures { λ _. ⌜ now (words .exit) ≡ set (now (words .entry)) 16 x ⌝ }
 {
     words[16] = x;
-}
-
-pub fn put_una(words: &mut [u32], x: u32)
-    requires { ⌜ length (now words) ≡ 35 ⌝ }
-    ensures { λ _. ⌜ now (words .exit) ≡ set (now (words .entry)) 17 x ⌝ }
-{
-    words[17] = x;
 }
 
 pub fn put_minrto(words: &mut [u32], x: u32)
