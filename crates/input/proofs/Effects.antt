@@ -1,7 +1,7 @@
 -- What each kind of segment leaves, from what the functions below promise. Assumes nothing.
 use Prim.Native.Nat.{ℕ, _+_, _≤_}
 use native.Mathlib.Omega.{arith}
-use mathlib.Core.Path.{_≡_, refl, sym, ap, _∙_}
+use mathlib.Core.Path.{_≡_, sym, ap, _∙_}
 use mir.Syntax.{w32}
 use mir.Val.{Fits}
 use mathlib.Core.Bool.{Bool, true, false}
@@ -28,7 +28,7 @@ use Rattle.transmit.specs.Memory.{side, unaAt, ackAt}
 use Rattle.transmit.specs.Memory as Send
 use Rattle.receiving.specs.Rules.{Segment, skipped}
 use Rattle.receive.specs.declared.Pushed.{Pushed}
-use Rattle.receive.specs.Memory.{Side, fullAt, pushAt, acksAt, listAt, skipsAt, PushedAs}
+use Rattle.receive.specs.Memory.{Side, fullAt, pushAt, acksAt, skipsAt, PushedAs}
 use Rattle.input.specs.Segment.{Met, withBlock, withRmtWnd, begun, pushOf, pushedAt, ackedAt, asked, effectAt}
 use Rattle.input.specs.Datagram.{withWindow, grownBy}
 

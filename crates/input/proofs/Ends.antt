@@ -1,7 +1,7 @@
 -- Where a datagram ends depends on its bytes and on the block's conv alone: a segment's end is its verdict's, and what a segment does leaves the conv and the
 -- waiting as its adoption left them. Assumes nothing.
 use Prim.Native.Nat.{ℕ, zero, suc, _+_, _-_}
-use mathlib.Core.Path.{_≡_, refl, sym, ap, _∙_}
+use mathlib.Core.Path.{_≡_, refl, ap, _∙_}
 use mathlib.Core.Bool.{Bool, false}
 use mathlib.Core.List.{List}
 use lib.ListN.{length}

@@ -1,6 +1,6 @@
 -- The verdict and the adoption of a conv, by what the tests find. Assumes nothing.
 use Prim.Native.Nat.{ℕ, _<_, _≤_}
-use mathlib.Core.Path.{_≡_, refl, sym, ap, _∙_, subst}
+use mathlib.Core.Path.{_≡_, refl, sym, _∙_}
 use mathlib.Core.Bool.{Bool, true, false}
 use borrow.Author.Tests.{lt-ltb, le-ltb}
 use Rattle.serial.specs.Branch.{pick, pick-true, pick-false}

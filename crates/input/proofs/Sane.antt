@@ -1,7 +1,7 @@
 -- What every segment keeps of the lent memory: both rings stay sound; and a segment skips at most one push. Assumes nothing.
 use Prim.Native.Nat.{ℕ, _+_, _-_, _≤_, _<_}
 use native.Mathlib.Omega.{arith}
-use mathlib.Core.Path.{_≡_, refl, sym, ap, _∙_}
+use mathlib.Core.Path.{_≡_, refl}
 use mathlib.Core.List.{List}
 use lib.ListN.{length}
 use Rattle.ring.proofs.Rows.{part-length}
@@ -10,7 +10,6 @@ use Rattle.wire.specs.declared.Header.{Header}
 use Rattle.wire.specs.declared.Kind.{Kind}
 use Rattle.wire.specs.declared.Kind.the-variants.{Push, Ack, Ask, Tell}
 use Rattle.wire.specs.Header.{headerAt}
-use Rattle.block.specs.declared.Kcp.{Kcp}
 use Rattle.receive.specs.Memory.{fullAt}
 use Rattle.receive.specs.Fits.{Good}
 use Rattle.receive.proofs.Seen.{push-good}

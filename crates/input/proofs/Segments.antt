@@ -1,23 +1,21 @@
 -- One segment, from what the functions that it calls promise. Assumes nothing.
 use Prim.Native.Nat.{ℕ, _+_, _-_, _≤_, _<_}
 use native.Mathlib.Omega.{arith}
-use mathlib.Core.Path.{_≡_, refl, sym, ap, _∙_, subst}
+use mathlib.Core.Path.{_≡_, sym, ap, _∙_, subst}
 use mathlib.Core.List.{List, []}
 use mir.Syntax.{w64}
 use mir.Val.{Fits}
 use lib.ListN.{length, take, drop}
 use Rattle.ring.specs.Lists.{Lists, lists}
 use Rattle.ring.specs.Records.{part}
-use Rattle.snd_ring.specs.Store.{Store, storeOf}
+use Rattle.snd_ring.specs.Store.{storeOf}
 use Rattle.wire.specs.declared.Header.{Header}
 use Rattle.wire.specs.declared.Kind.{Kind}
 use Rattle.wire.specs.Header.{headerAt}
 use Rattle.block.specs.declared.Kcp.{Kcp}
-use Rattle.block.specs.declared.sender.Sender.{Sender}
 use Rattle.block.specs.declared.refusal.Refusal.{Refusal}
 use Rattle.block.specs.declared.refusal.Bytes.{Bytes}
 use Rattle.block.specs.declared.refusal.Bytes.the-variants.{Are}
-use Rattle.sending.specs.declared.Latest.{Latest}
 use Rattle.receive.specs.Fits.{Good}
 use Rattle.transmit.specs.Fits.{Lies}
 use Rattle.transmit.proofs.Exact.{una-lies}

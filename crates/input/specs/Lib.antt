@@ -1,2 +1,3 @@
 pub mod Segment
 pub mod Datagram
+pub mod Examples

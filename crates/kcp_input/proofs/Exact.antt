@@ -6,7 +6,7 @@ use mathlib.Core.Bool.{Bool, true, false, not, _&&_}
 use mathlib.Core.List.{List}
 use lib.ListN.{length}
 use borrow.Author.Tests.{not-true, not-false}
-use Rattle.ring.specs.Lists.{Lists, lists}
+use Rattle.ring.specs.Lists.{Lists}
 use Rattle.block.specs.declared.Kcp.{Kcp}
 use Rattle.block.specs.declared.acklist.AckList.{AckList}
 use Rattle.block.specs.Sizes.{AckSizes, pairs}

@@ -1,8 +1,7 @@
 -- `input::act` meets its contract. Assumes nothing.
-use mathlib.Core.Path.{_≡_, refl, ap}
+use mathlib.Core.Path.{refl}
 use Rattle.ring.specs.Lists.{lists}
 use Rattle.snd_ring.specs.Store.{storeOf}
-use Rattle.input.specs.declared.Walk.{Walk}
 use Rattle.input.proofs.Effects.{did-push, did-ack, did-ask, did-tell}
 use borrow.Author.Needs.{needs}
 use Rattle.input.proofs.act.Statement.{statement}

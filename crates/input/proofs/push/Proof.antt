@@ -1,7 +1,6 @@
 -- `input::push` meets its contract. Assumes nothing.
 use Rattle.input.proofs.Effects.{skips-fit}
 use native.Mathlib.Omega.{arith}
-use Prim.Native.Nat.{_≤_}
 use Rattle.ring.specs.Lists.{lists}
 use Rattle.input.specs.Segment.{pushOf}
 use Rattle.input.proofs.Effects.{push-skips, push-done}

@@ -1,5 +1,4 @@
 -- `input::segment` meets its contract. Assumes nothing.
-use Prim.Native.Nat.{_≤_, _<_}
 use native.Mathlib.Omega.{arith}
 use mathlib.Core.List.{[]}
 use Rattle.ring.specs.Lists.{lists}
