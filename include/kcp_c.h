@@ -31,34 +31,48 @@ void kcp_header_numbers(const uint8_t bytes[24], uint32_t out[8]);
 /* The estimator srtt, rttval, rto, minrto after a round trip of rtt. */
 void kcp_measured(uint32_t e[4], uint32_t rtt, uint32_t interval);
 
-/* Whether a pool of at most 1,024 slots, with records of width (at most 64) numbers, is well formed with n slots in use: 0, or
-   15 (BadPool). */
-uint32_t kcp_pool_test(const uint32_t *order, size_t slots, const uint32_t *records, size_t numbers, const uint8_t *room,
-                       size_t bytes, size_t width, size_t n);
-
-/* A control block is forty words, in this order, which the host keeps; it may read and copy them, and needs no getter for them.
-   A flag is 0 or 1; the windows, ssthresh and the largest window have 16 bits. The functions below refuse words that are no block
-   by 15, which leaves all as it was. */
+/* A control block is 35 words, in this order, which the host keeps; it may read and copy them, and needs no getter for them. Two
+   numbers of 16 bits share a word, the first named in the low half: the receive window and the largest one yet set, the send window
+   and the peer's, cwnd and ssthresh. incr has 64 bits, in two words. The flags share the first word. Any number is a block's, but for
+   the first word, whose bits past the flags are 0: words that are no block are refused by 15 (BadPool), which leaves all as it was. */
 enum {
-    KCP_CONV, KCP_MTU, KCP_MSS, KCP_DEAD, KCP_SND_UNA, KCP_SND_NXT, KCP_RCV_NXT, KCP_SSTHRESH, KCP_RX_RTTVAL, KCP_RX_SRTT,
-    KCP_RX_RTO, KCP_RX_MINRTO, KCP_SND_WND, KCP_RCV_WND, KCP_RMT_WND, KCP_CWND, KCP_PROBE, KCP_CURRENT, KCP_INTERVAL,
-    KCP_TS_FLUSH, KCP_XMIT, KCP_NODELAY, KCP_UPDATED, KCP_TS_PROBE, KCP_PROBE_WAIT, KCP_DEAD_LINK, KCP_INCR_LOW, KCP_INCR_HIGH,
-    KCP_FASTRESEND, KCP_FASTLIMIT, KCP_NOCWND, KCP_STREAM, KCP_INPUT_CONV, KCP_LARGEST, KCP_QUEUED, KCP_HELD, KCP_FLYING,
-    KCP_WAITING_TO_FLY, KCP_ACKS, KCP_WAITING, KCP_WORDS
+    KCP_FLAGS, KCP_MTU, KCP_MSS, KCP_PROBE_WAIT, KCP_RCV_NXT, KCP_RCV_WND_LARGEST, KCP_RCV_START, KCP_QUEUED, KCP_RCV_REACH,
+    KCP_SND_START, KCP_SND_REACH, KCP_FLYING, KCP_UNSENT, KCP_ACKS, KCP_WAITING, KCP_PROBE, KCP_CONV, KCP_SND_UNA, KCP_SND_NXT,
+    KCP_SND_WND_RMT_WND, KCP_CWND_SSTHRESH, KCP_INCR_LOW, KCP_INCR_HIGH, KCP_RX_SRTT, KCP_RX_RTTVAL, KCP_RX_RTO, KCP_RX_MINRTO,
+    KCP_CURRENT, KCP_INTERVAL, KCP_TS_FLUSH, KCP_TS_PROBE, KCP_XMIT, KCP_FASTRESEND, KCP_FASTLIMIT, KCP_DEAD_LINK, KCP_WORDS
 };
 
+/* The flags of the first word: nodelay; nocwnd; a stream; the next input's conv is adopted; there was an update; the link is dead. */
+enum {
+    KCP_FLAG_NODELAY = 1, KCP_FLAG_NOCWND = 2, KCP_FLAG_STREAM = 4, KCP_FLAG_INPUT_CONV = 8, KCP_FLAG_UPDATED = 16, KCP_FLAG_DEAD = 32
+};
+
+/* What is lent, beside the words. Each side is lent a ring of slots: records, and a room of 1,476 bytes for each slot. Index i of a ring
+   stands at the slot (start + i) modulo the slots; a slot has a mark, 0 where nothing stands and n + 1 where a payload of n bytes does.
+   The receive ring has 256 to 1,024 slots and one number for each, its mark * 65,536 + frg. Its first KCP_QUEUED indices are the queue;
+   the KCP_RCV_REACH behind them are the numbers from rcv_nxt on, each held or, with a mark of 0, not yet.
+   The send ring has 128 to 1,024 slots and nine numbers for each: first the marks of all slots, then eight numbers for each slot: conv,
+   frg, sn, ts, resendts, rto, fastack, xmit. Its first KCP_SND_REACH indices are in flight, with gaps, whose marks are 0, where an ack
+   took a segment out of the middle: KCP_FLYING of them are segments. The KCP_UNSENT behind them wait to be sent.
+   The ack list has 2 numbers for each of 128 to 4,096 pairs, and 1,500 bytes are for what waits.
+   What stands at indices that are not in use is no fault. A ring with nothing in use may start anywhere, and a call that empties it
+   leaves its start at slot 0.
+
+   15 (BadPool) is for words that are no block, a size outside these limits, and what is not well formed. A call that is handed any of
+   this memory tests it, and the block's own numbers: mtu from 50 to 1,500 and mss = mtu - 24; probe_wait 0, or from 7,000 to 120,000;
+   rcv_wnd from 128 to the largest window, which is at most 512 and at most half of the receive slots; queue and reach of the receive ring
+   at most that window; in flight at least one segment where the send ring reaches at all, its front one, and as many as KCP_FLYING says;
+   each start within the slots, and no more in use than there are; marks of at most 1,477, and none of 0 in the queue and in what waits;
+   no more acks than pairs, and at most 1,500 waiting bytes. */
+
 /* A fresh block, that keeps messages apart, or that carries a stream of bytes: 0, or 15 where there are not KCP_WORDS words or a
-   size is outside the limits. The receive pool is an order of 256 to 1,024 slots, records of 2 numbers and 1,476 bytes for each;
-   the send pool an order of 128 to 1,024 slots, records of 8 numbers and 1,476 bytes for each; then acks of 2 numbers for each of
-   128 to 4,096 pairs, and 1,500 bytes for what waits. What they hold is no fault, and stays. */
-uint32_t kcp_new(uint32_t *words, size_t count, uint32_t conv, const uint32_t *rcv_order, size_t rcv_slots,
-                 const uint32_t *rcv_records, size_t rcv_numbers, const uint8_t *rcv_room, size_t rcv_bytes,
-                 const uint32_t *snd_order, size_t snd_slots, const uint32_t *snd_records, size_t snd_numbers,
+   size is outside the limits, which leaves all as it was. What the lent memory holds is no fault, and stays. */
+uint32_t kcp_new(uint32_t *words, size_t count, uint32_t conv, const uint32_t *rcv_records, size_t rcv_numbers,
+                 const uint8_t *rcv_room, size_t rcv_bytes, const uint32_t *snd_records, size_t snd_numbers,
                  const uint8_t *snd_room, size_t snd_bytes, const uint32_t *acks, size_t acks_numbers, const uint8_t *waiting,
                  size_t waiting_bytes);
-uint32_t kcp_new_stream(uint32_t *words, size_t count, uint32_t conv, const uint32_t *rcv_order, size_t rcv_slots,
-                        const uint32_t *rcv_records, size_t rcv_numbers, const uint8_t *rcv_room, size_t rcv_bytes,
-                        const uint32_t *snd_order, size_t snd_slots, const uint32_t *snd_records, size_t snd_numbers,
+uint32_t kcp_new_stream(uint32_t *words, size_t count, uint32_t conv, const uint32_t *rcv_records, size_t rcv_numbers,
+                        const uint8_t *rcv_room, size_t rcv_bytes, const uint32_t *snd_records, size_t snd_numbers,
                         const uint8_t *snd_room, size_t snd_bytes, const uint32_t *acks, size_t acks_numbers,
                         const uint8_t *waiting, size_t waiting_bytes);
 
@@ -86,44 +100,51 @@ uint32_t kcp_input_conv(uint32_t *words, size_t count);
 /* the block's conv, while kcp_set_conv sets that of a header: 0, or 15 */
 uint32_t kcp_set_block_conv(uint32_t *words, size_t count, uint32_t conv);
 
-/* The calls that are handed the receive pool: its order (one number a slot), its records (two numbers a slot: sn and frg) and its room
-   (1,476 bytes a slot), of 256 to 1,024 slots. 15 (BadPool) where the block or the pool is not well formed; a refused call leaves all as
-   it was. */
+/* The calls that are handed the receive memory alone, to which none of them writes. 15 (BadPool) where the block or that memory is not well
+   formed; a refused call leaves all as it was. */
 
-/* held segments move to the queue while the front is rcv_nxt and the queue is shorter than rcv_wnd: 0, or 15 */
-uint32_t kcp_move_buf(uint32_t *words, size_t count, const uint32_t *order, size_t slots, const uint32_t *records, size_t numbers,
-                      const uint8_t *room, size_t bytes);
+/* held segments move to the queue while the front is rcv_nxt and the queue is shorter than rcv_wnd, which changes numbers of the block
+   alone: 0, or 15 */
+uint32_t kcp_move_buf(uint32_t *words, size_t count, const uint32_t *records, size_t numbers, const uint8_t *room, size_t bytes);
 
 /* the length of the message at the front of the queue, put into length: 0, or 5 (RecvQueueEmpty), 6 (ExpectingFragment) or 15 */
-uint32_t kcp_peeksize(const uint32_t *words, size_t count, const uint32_t *order, size_t slots, const uint32_t *records,
-                      size_t numbers, const uint8_t *room, size_t bytes, size_t *length);
+uint32_t kcp_peeksize(const uint32_t *words, size_t count, const uint32_t *records, size_t numbers, const uint8_t *room, size_t bytes,
+                      size_t *length);
 
 /* that message, put into buf, and its length into length; bytes of buf past it stay: 0, or 5, 6, 7 (UserBufTooSmall) or 15 */
-uint32_t kcp_recv(uint32_t *words, size_t count, uint32_t *order, size_t slots, const uint32_t *records, size_t numbers,
-                  const uint8_t *room, size_t bytes, uint8_t *buf, size_t len, size_t *length);
+uint32_t kcp_recv(uint32_t *words, size_t count, const uint32_t *records, size_t numbers, const uint8_t *room, size_t bytes, uint8_t *buf,
+                  size_t len, size_t *length);
 
 /* both windows, a receive window raised to 128; 0 leaves a window: 0, or 14 (WindowTooLarge) where twice the receive window exceeds
    the slots, which leaves both, or 15 */
-uint32_t kcp_set_wndsize(uint32_t *words, size_t count, uint16_t sndwnd, uint16_t rcvwnd, const uint32_t *order, size_t slots,
-                         const uint32_t *records, size_t numbers, const uint8_t *room, size_t bytes);
+uint32_t kcp_set_wndsize(uint32_t *words, size_t count, uint16_t sndwnd, uint16_t rcvwnd, const uint32_t *records, size_t numbers,
+                         const uint8_t *room, size_t bytes);
 
-/* One datagram, with both pools (the send pool's records are eight numbers a slot), the acks and what waits: 0 with values[0] = the bytes
-   consumed and values[1] = 0; or 15, 11 (DatagramTooBig) or 1 (InvalidSegmentSize), which leave all as it was, or 2 (ConvInconsistent),
-   3 (InvalidSegmentDataSize) or 4 (UnsupportedCmd), which leave what the segments before the refused one did, and after 3 and 4 the conv
-   adopted; values are then what goes with the refusal: 1 the size; 2 the own and the met conv; 3 len and the bytes left; 4 the cmd; 0 where
-   there is none. skipped = how many pushes were skipped for want of room in the ack list, 0 to 62, also beside a refusal. */
-uint32_t kcp_input(uint32_t *words, size_t count, uint32_t *rcv_order, size_t rcv_slots, uint32_t *rcv_records, size_t rcv_numbers,
-                   uint8_t *rcv_room, size_t rcv_bytes, uint32_t *snd_order, size_t snd_slots, uint32_t *snd_records,
-                   size_t snd_numbers, const uint8_t *snd_room, size_t snd_bytes, uint32_t *acks, size_t acks_numbers,
-                   const uint8_t *waiting, size_t waiting_bytes, const uint8_t *data, size_t len, size_t values[2], uint32_t *skipped);
+/* One datagram, with the memory of both sides, the acks and what waits: 0 with values[0] = the bytes consumed and values[1] = 0; or 15,
+   11 (DatagramTooBig) or 1 (InvalidSegmentSize), which leave all as it was, or 2 (ConvInconsistent), 3 (InvalidSegmentDataSize) or
+   4 (UnsupportedCmd), which leave what the segments before the refused one did, and after 3 and 4 the conv adopted; values are then what
+   goes with the refusal: 1 the size; 2 the own and the met conv; 3 len and the bytes left; 4 the cmd; 0 where there is none.
+   skipped = how many pushes were skipped for want of room in the ack list, 0 to 62, also beside a refusal. A segment that is stored or
+   acknowledged moves no other. */
+uint32_t kcp_input(uint32_t *words, size_t count, uint32_t *rcv_records, size_t rcv_numbers, uint8_t *rcv_room, size_t rcv_bytes,
+                   uint32_t *snd_records, size_t snd_numbers, const uint8_t *snd_room, size_t snd_bytes, uint32_t *acks,
+                   size_t acks_numbers, const uint8_t *waiting, size_t waiting_bytes, const uint8_t *data, size_t len, size_t values[2],
+                   uint32_t *skipped);
 
-/* The call that is handed the send pool: its order (one number a slot), its records (eight numbers a slot) and its room (1,476 bytes a
-   slot), of 128 to 1,024 slots. */
+/* The call that is handed the send memory. */
 
-/* queues len bytes; the bytes queued are put into queued: 0, or 8 (UserBufTooBig), 12 (SendPoolFull) or 15, which leave queued as it was.
-   8 in a stream: what joined the last segment stays; else a refusal leaves all as it was */
-uint32_t kcp_send(uint32_t *words, size_t count, uint32_t *snd_order, size_t snd_slots, uint32_t *snd_records, size_t snd_numbers,
-                  uint8_t *snd_room, size_t snd_bytes, const uint8_t *data, size_t len, size_t *queued);
+/* queues len bytes; the bytes queued are put into queued: 0, or 8 (UserBufTooBig), 12 (SendPoolFull) where there are more new segments
+   than slots that hold none, or 15, which leave queued as it was. 8 in a stream: what joined the last segment stays; else a refusal leaves
+   all as it was. Where the slots behind what waits are too few, the segments in flight are moved to close their gaps, which else stay */
+uint32_t kcp_send(uint32_t *words, size_t count, uint32_t *snd_records, size_t snd_numbers, uint8_t *snd_room, size_t snd_bytes,
+                  const uint8_t *data, size_t len, size_t *queued);
+
+/* Whether the block and the receive memory, or the send memory, are well formed, as the calls above test it: 0, or 15. They are there to be
+   timed; no call needs them. */
+uint32_t kcp_receive_test(const uint32_t *words, size_t count, const uint32_t *records, size_t numbers, const uint8_t *room,
+                          size_t bytes);
+uint32_t kcp_send_test(const uint32_t *words, size_t count, const uint32_t *snd_records, size_t snd_numbers, const uint8_t *snd_room,
+                       size_t snd_bytes);
 
 #ifdef __cplusplus
 }

@@ -4,12 +4,13 @@
 use std::{env, fs};
 
 /// A group of functions, and the one that stands for it.
-const GROUPS: [(&str, &str); 5] = [
+const GROUPS: [(&str, &str); 6] = [
     ("kcp_c_new", "kcp_new"),
     ("kcp_c_setters", "kcp_set_mtu"),
     ("kcp_c_receive", "kcp_recv"),
     ("kcp_c_send", "kcp_send"),
     ("kcp_c_input", "kcp_input"),
+    ("kcp_c_tests", "kcp_receive_test"),
 ];
 
 /// The names in an archive's index of symbols, which is its first member, in the form of ar: how many, a place for each, the names.

@@ -5,7 +5,7 @@ use crate::side::{Answer, Outcome};
 use state::{Segment, State};
 
 /// The cases, in the order of the table.
-const CASES: [&str; 57] = [
+const CASES: [&str; 58] = [
     "input: push, ack, ask and tell in one datagram",
     "input: refused by 1",
     "input: refused by 2, with effects before it",
@@ -62,6 +62,7 @@ const CASES: [&str; 57] = [
     "send: 8, stream, after a fill",
     "send: 127 segments",
     "send: the pool filled to the last slot",
+    "send: segments fit only in the places of acked ones between those in flight",
     "send: a stream joins the last segment with the pool full",
 ];
 
@@ -289,6 +290,11 @@ impl Reach {
         self.note("send: 8, stream, after a fill", !answered && stream && joined);
         self.note("send: 127 segments", answered && more == 127);
         self.note("send: the pool filled to the last slot", more > 0 && used(after) == sizes.send);
+        // as many places as there are numbers from the first in flight on, acked ones among them
+        let first = before.snd_buf.first().map_or(before.snd_nxt, |x| x.sn);
+        let places = before.snd_nxt.wrapping_sub(first) as usize + before.snd_queue.len();
+        let fits = places <= sizes.send && places + more > sizes.send;
+        self.note("send: segments fit only in the places of acked ones between those in flight", answered && more > 0 && fits);
         self.note("send: a stream joins the last segment with the pool full", answered && joined && used(before) == sizes.send);
     }
 }

@@ -1,7 +1,7 @@
 //! The functions of the static library, each behind a safe one. A group of them that the library lacks is declared all the same,
 //! as functions that are never called: `has` says which calls the port has.
 
-use crate::memory::{Memory, Pool};
+use crate::memory::{Lent, Memory};
 use crate::watch::Before;
 use driver::call::{datagram, Call, Header, LEAVES};
 use driver::rust_side::BLANK;
@@ -32,6 +32,9 @@ pub fn has(name: &str) -> bool {
     GROUPS.iter().any(|g| g.0 && g.1.contains(&name))
 }
 
+/// Whether it has the tests that every call which is handed memory makes, as functions of their own.
+pub const HAS_TESTS: bool = cfg!(kcp_c_tests);
+
 /// Whether it has any call on a block.
 pub fn has_block() -> bool {
     all().iter().any(|name| !LEAVES.contains(name))
@@ -54,7 +57,7 @@ macro_rules! linked {
     };
 }
 
-#[cfg(not(all(kcp_c, kcp_c_new, kcp_c_setters, kcp_c_receive, kcp_c_send, kcp_c_input)))]
+#[cfg(not(all(kcp_c, kcp_c_new, kcp_c_setters, kcp_c_receive, kcp_c_send, kcp_c_input, kcp_c_tests)))]
 fn lacking(name: &str) -> ! {
     eprintln!("the library has no {}", name);
     std::process::exit(2)
@@ -71,21 +74,18 @@ linked! {
         fn kcp_header_bytes(out: *mut [u8; 24], conv: u32, cmd: u8, frg: u8, wnd: u16, ts: u32, sn: u32, una: u32, len: u32);
         fn kcp_header_numbers(bytes: *const [u8; 24], out: *mut [u32; 8]);
         fn kcp_measured(e: *mut [u32; 4], rtt: u32, interval: u32);
-        fn kcp_pool_test(
-            order: *const u32, slots: usize, records: *const u32, numbers: usize, room: *const u8, bytes: usize, width: usize, n: usize,
-        ) -> u32;
     }
     kcp_c_new {
         fn kcp_new(
             words: *mut u32, n: usize, conv: u32,
-            rcv_order: *const u32, rcv_slots: usize, rcv_records: *const u32, rcv_numbers: usize, rcv_room: *const u8, rcv_bytes: usize,
-            snd_order: *const u32, snd_slots: usize, snd_records: *const u32, snd_numbers: usize, snd_room: *const u8, snd_bytes: usize,
+            rcv_records: *const u32, rcv_numbers: usize, rcv_room: *const u8, rcv_bytes: usize,
+            snd_records: *const u32, snd_numbers: usize, snd_room: *const u8, snd_bytes: usize,
             acks: *const u32, ack_numbers: usize, waiting: *const u8, waiting_bytes: usize,
         ) -> u32;
         fn kcp_new_stream(
             words: *mut u32, n: usize, conv: u32,
-            rcv_order: *const u32, rcv_slots: usize, rcv_records: *const u32, rcv_numbers: usize, rcv_room: *const u8, rcv_bytes: usize,
-            snd_order: *const u32, snd_slots: usize, snd_records: *const u32, snd_numbers: usize, snd_room: *const u8, snd_bytes: usize,
+            rcv_records: *const u32, rcv_numbers: usize, rcv_room: *const u8, rcv_bytes: usize,
+            snd_records: *const u32, snd_numbers: usize, snd_room: *const u8, snd_bytes: usize,
             acks: *const u32, ack_numbers: usize, waiting: *const u8, waiting_bytes: usize,
         ) -> u32;
     }
@@ -102,48 +102,50 @@ linked! {
     kcp_c_receive {
         fn kcp_move_buf(
             words: *mut u32, n: usize,
-            order: *const u32, slots: usize, records: *const u32, numbers: usize, room: *const u8, bytes: usize,
+            records: *const u32, numbers: usize, room: *const u8, bytes: usize,
         ) -> u32;
         fn kcp_peeksize(
             words: *const u32, n: usize,
-            order: *const u32, slots: usize, records: *const u32, numbers: usize, room: *const u8, bytes: usize,
+            records: *const u32, numbers: usize, room: *const u8, bytes: usize,
             length: *mut usize,
         ) -> u32;
         fn kcp_recv(
             words: *mut u32, n: usize,
-            order: *mut u32, slots: usize, records: *const u32, numbers: usize, room: *const u8, bytes: usize,
+            records: *const u32, numbers: usize, room: *const u8, bytes: usize,
             buf: *mut u8, len: usize, length: *mut usize,
         ) -> u32;
         fn kcp_set_wndsize(
             words: *mut u32, n: usize, sndwnd: u16, rcvwnd: u16,
-            order: *const u32, slots: usize, records: *const u32, numbers: usize, room: *const u8, bytes: usize,
+            records: *const u32, numbers: usize, room: *const u8, bytes: usize,
         ) -> u32;
     }
     kcp_c_send {
         fn kcp_send(
             words: *mut u32, n: usize,
-            snd_order: *mut u32, snd_slots: usize, snd_records: *mut u32, snd_numbers: usize, snd_room: *mut u8, snd_bytes: usize,
+            snd_records: *mut u32, snd_numbers: usize, snd_room: *mut u8, snd_bytes: usize,
             data: *const u8, len: usize, queued: *mut usize,
         ) -> u32;
     }
     kcp_c_input {
         fn kcp_input(
             words: *mut u32, n: usize,
-            rcv_order: *mut u32, rcv_slots: usize, rcv_records: *mut u32, rcv_numbers: usize, rcv_room: *mut u8, rcv_bytes: usize,
-            snd_order: *mut u32, snd_slots: usize, snd_records: *mut u32, snd_numbers: usize, snd_room: *const u8, snd_bytes: usize,
+            rcv_records: *mut u32, rcv_numbers: usize, rcv_room: *mut u8, rcv_bytes: usize,
+            snd_records: *mut u32, snd_numbers: usize, snd_room: *const u8, snd_bytes: usize,
             acks: *mut u32, ack_numbers: usize, waiting: *const u8, waiting_bytes: usize,
             data: *const u8, len: usize, values: *mut [usize; 2], skipped: *mut u32,
+        ) -> u32;
+    }
+    kcp_c_tests {
+        fn kcp_receive_test(
+            words: *const u32, n: usize, records: *const u32, numbers: usize, room: *const u8, bytes: usize,
+        ) -> u32;
+        fn kcp_send_test(
+            words: *const u32, n: usize, snd_records: *const u32, snd_numbers: usize, snd_room: *const u8, snd_bytes: usize,
         ) -> u32;
     }
 }
 
 // ---- numbers and bytes alone
-
-/// Whether a pool is well formed with n slots in use: 0, or 15.
-pub fn pool_test(order: &[u32], records: &[u32], room: &[u8], width: usize, n: usize) -> u32 {
-    let (o, k, r) = (order.as_ptr(), records.as_ptr(), room.as_ptr());
-    unsafe { kcp_pool_test(o, order.len(), k, records.len(), r, room.len(), width, n) }
-}
 
 fn refused(number: u32) -> Answer {
     Answer::Refused { number: number as u8, values: vec![] }
@@ -207,8 +209,8 @@ pub fn new(m: &mut Memory, conv: u32, stream: bool) -> u32 {
     unsafe {
         make(
             m.words.as_mut_ptr(), m.words.len(), conv,
-            r.order.as_ptr(), r.order.len(), r.records.as_ptr(), r.records.len(), r.room.as_ptr(), r.room.len(),
-            s.order.as_ptr(), s.order.len(), s.records.as_ptr(), s.records.len(), s.room.as_ptr(), s.room.len(),
+            r.records.as_ptr(), r.records.len(), r.room.as_ptr(), r.room.len(),
+            s.records.as_ptr(), s.records.len(), s.room.as_ptr(), s.room.len(),
             m.acks.as_ptr(), m.acks.len(), m.waiting.as_ptr(), m.waiting.len(),
         )
     }
@@ -218,47 +220,51 @@ pub fn set_mtu(m: &mut Memory, mtu: usize) -> u32 {
     unsafe { kcp_set_mtu(m.words.as_mut_ptr(), m.words.len(), mtu) }
 }
 
+pub fn set_interval(m: &mut Memory, interval: u32) -> u32 {
+    unsafe { kcp_set_interval(m.words.as_mut_ptr(), m.words.len(), interval) }
+}
+
 pub fn set_nodelay(m: &mut Memory, nodelay: bool, interval: i32, resend: i32, nc: bool) -> u32 {
     unsafe { kcp_set_nodelay(m.words.as_mut_ptr(), m.words.len(), nodelay, interval, resend, nc) }
 }
 
 pub fn set_wndsize(m: &mut Memory, sndwnd: u16, rcvwnd: u16) -> u32 {
-    let (w, p) = (&mut m.words, &m.receive);
+    let (w, l) = (&mut m.words, &m.receive);
     unsafe {
         kcp_set_wndsize(
             w.as_mut_ptr(), w.len(), sndwnd, rcvwnd,
-            p.order.as_ptr(), p.order.len(), p.records.as_ptr(), p.records.len(), p.room.as_ptr(), p.room.len(),
+            l.records.as_ptr(), l.records.len(), l.room.as_ptr(), l.room.len(),
         )
     }
 }
 
 pub fn move_buf(m: &mut Memory) -> u32 {
-    let (w, p) = (&mut m.words, &m.receive);
+    let (w, l) = (&mut m.words, &m.receive);
     unsafe {
         kcp_move_buf(
             w.as_mut_ptr(), w.len(),
-            p.order.as_ptr(), p.order.len(), p.records.as_ptr(), p.records.len(), p.room.as_ptr(), p.room.len(),
+            l.records.as_ptr(), l.records.len(), l.room.as_ptr(), l.room.len(),
         )
     }
 }
 
 pub fn peeksize(m: &Memory, length: &mut usize) -> u32 {
-    let (w, p) = (&m.words, &m.receive);
+    let (w, l) = (&m.words, &m.receive);
     unsafe {
         kcp_peeksize(
             w.as_ptr(), w.len(),
-            p.order.as_ptr(), p.order.len(), p.records.as_ptr(), p.records.len(), p.room.as_ptr(), p.room.len(),
+            l.records.as_ptr(), l.records.len(), l.room.as_ptr(), l.room.len(),
             length,
         )
     }
 }
 
 pub fn recv(m: &mut Memory, buf: &mut [u8], length: &mut usize) -> u32 {
-    let (w, p) = (&mut m.words, &mut m.receive);
+    let (w, l) = (&mut m.words, &m.receive);
     unsafe {
         kcp_recv(
             w.as_mut_ptr(), w.len(),
-            p.order.as_mut_ptr(), p.order.len(), p.records.as_ptr(), p.records.len(), p.room.as_ptr(), p.room.len(),
+            l.records.as_ptr(), l.records.len(), l.room.as_ptr(), l.room.len(),
             buf.as_mut_ptr(), buf.len(), length,
         )
     }
@@ -266,11 +272,11 @@ pub fn recv(m: &mut Memory, buf: &mut [u8], length: &mut usize) -> u32 {
 
 pub fn send(m: &mut Memory, data: &[u8], queued: &mut usize) -> u32 {
     let w = &mut m.words;
-    let Pool { order, records, room, .. } = &mut m.send;
+    let Lent { records, room } = &mut m.send;
     unsafe {
         kcp_send(
             w.as_mut_ptr(), w.len(),
-            order.as_mut_ptr(), order.len(), records.as_mut_ptr(), records.len(), room.as_mut_ptr(), room.len(),
+            records.as_mut_ptr(), records.len(), room.as_mut_ptr(), room.len(),
             data.as_ptr(), data.len(), queued,
         )
     }
@@ -282,12 +288,24 @@ pub fn input(m: &mut Memory, data: &[u8], values: &mut [usize; 2], skipped: &mut
     unsafe {
         kcp_input(
             w.as_mut_ptr(), w.len(),
-            r.order.as_mut_ptr(), r.order.len(), r.records.as_mut_ptr(), r.records.len(), r.room.as_mut_ptr(), r.room.len(),
-            s.order.as_mut_ptr(), s.order.len(), s.records.as_mut_ptr(), s.records.len(), s.room.as_ptr(), s.room.len(),
+            r.records.as_mut_ptr(), r.records.len(), r.room.as_mut_ptr(), r.room.len(),
+            s.records.as_mut_ptr(), s.records.len(), s.room.as_ptr(), s.room.len(),
             a.as_mut_ptr(), a.len(), b.as_ptr(), b.len(),
             data.as_ptr(), data.len(), values, skipped,
         )
     }
+}
+
+/// Whether block and receive memory are well formed: 0, or 15.
+pub fn receive_test(m: &Memory) -> u32 {
+    let (w, l) = (&m.words, &m.receive);
+    unsafe { kcp_receive_test(w.as_ptr(), w.len(), l.records.as_ptr(), l.records.len(), l.room.as_ptr(), l.room.len()) }
+}
+
+/// The same of the send memory.
+pub fn send_test(m: &Memory) -> u32 {
+    let (w, l) = (&m.words, &m.send);
+    unsafe { kcp_send_test(w.as_ptr(), w.len(), l.records.as_ptr(), l.records.len(), l.room.as_ptr(), l.room.len()) }
 }
 
 /// The answer of a call that puts a length into its place, which a refusal leaves.
@@ -327,9 +345,9 @@ fn input_answer(m: &mut Memory, data: &[u8], out: &mut Outcome) -> Option<String
 /// A block made anew, whose numbers then start at `rcv` and `snd`.
 fn start(m: &mut Memory, conv: u32, stream: bool, rcv: u32, snd: u32) -> Answer {
     let answer = done(new(m, conv, stream));
-    m.set_word("rcv_nxt", rcv);
-    m.set_word("snd_una", snd);
-    m.set_word("snd_nxt", snd);
+    m.set_number("rcv_nxt", rcv);
+    m.set_number("snd_una", snd);
+    m.set_number("snd_nxt", snd);
     answer
 }
 
@@ -343,7 +361,7 @@ fn set(m: &mut Memory, call: &Call) -> Answer {
             }
         }
         Call::SetNodelay(nodelay, interval, resend, nc) => set_nodelay(m, *nodelay, *interval, *resend, *nc),
-        Call::SetInterval(x) => unsafe { kcp_set_interval(w, n, *x) },
+        Call::SetInterval(x) => set_interval(m, *x),
         Call::SetRxMinrto(x) => unsafe { kcp_set_rx_minrto(w, n, *x) },
         Call::SetFastResend(x) => unsafe { kcp_set_fast_resend(w, n, *x) },
         Call::SetMaximumResendTimes(x) => unsafe { kcp_set_maximum_resend_times(w, n, *x) },
@@ -377,5 +395,13 @@ pub fn apply(m: &mut Memory, call: &Call, all: bool, out: &mut Outcome) {
         Call::Input(pieces) => odd = input_answer(m, &datagram(pieces), out),
         setter => out.answer = set(m, setter),
     }
-    out.stray = odd.or_else(|| before.stray(m, call, out));
+    out.stray = odd.or_else(|| before.stray(m, call, out)).or_else(|| tested(m));
+}
+
+/// What the library's own tests have against the memory that a call has left, which is well formed.
+fn tested(m: &Memory) -> Option<String> {
+    if HAS_TESTS && (receive_test(m), send_test(m)) != (0, 0) {
+        return Some("the library's own test finds it not well formed".to_string());
+    }
+    None
 }

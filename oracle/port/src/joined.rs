@@ -2,7 +2,9 @@
 //!
 //! The port's calls on a block find its state in the lent memory and leave it there, so that from call to call the slots are those
 //! that the port itself chose; the state goes to the copy and back only where the copy must act. In part of the sequences it goes
-//! through the memory after every call of the copy too, so that what laying and reading would get wrong shows as a difference.
+//! through the memory after every call of the copy too, so that what laying and reading would get wrong shows as a difference. And in
+//! part of them what the copy has acted on is laid elsewhere each time, so that the port meets rings at their wrap, gaps and stale
+//! words that its own calls seldom lead to.
 
 use crate::exports;
 use crate::memory::Memory;
@@ -20,6 +22,8 @@ pub struct Joined<S: Side> {
     watched: bool,
     /// Whether this sequence goes through the memory after every call.
     through: bool,
+    /// Whether its segments stay in their slots when they are laid again.
+    stay: bool,
     /// Where the state stands: in the copy, in the memory, or in both.
     in_copy: bool,
     in_memory: bool,
@@ -38,7 +42,7 @@ impl<S: Side> Joined<S> {
     pub fn new(copy: S, port: bool, watched: bool) -> Joined<S> {
         let sizes = Sizes { receive: 1024, send: 1024, acks: 4096 };
         let memory = Memory::new(sizes);
-        Joined { copy, memory, sizes, port, watched, through: false, in_copy: true, in_memory: false, s: State::default() }
+        Joined { copy, memory, sizes, port, watched, through: false, stay: false, in_copy: true, in_memory: false, s: State::default() }
     }
 
     /// Whether the state that is read has been, or may have been, in the memory, which does not keep every number of every segment.
@@ -59,7 +63,8 @@ impl<S: Side> Joined<S> {
         if !self.in_memory {
             self.copy.read(&mut self.s);
             assert!(self.memory.fits(&self.s), "a state of the domain does not fit the memory that is lent: {:?}", self.sizes);
-            self.memory.lay(&self.s);
+            self.memory.lay(&self.s, self.stay);
+            assert_eq!(self.memory.fault(), None, "a state was laid that is not well formed");
             self.in_memory = true;
         }
     }
@@ -75,6 +80,7 @@ impl<S: Side> Joined<S> {
     /// A new block: nothing of the state before it counts.
     fn start(&mut self, rcv: u32, snd: u32, sizes: Sizes) {
         self.through = (rcv ^ snd) % 3 == 0;
+        self.stay = (rcv ^ snd) % 2 == 0;
         self.sizes = sizes;
         self.lend();
         self.in_copy = true;

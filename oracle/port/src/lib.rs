@@ -5,3 +5,6 @@ pub mod exports;
 pub mod joined;
 pub mod memory;
 pub mod watch;
+
+#[cfg(test)]
+mod tests;

@@ -1,135 +1,194 @@
 //! The memory that a host lends to the port, and a state laid into it and read back.
 //!
-//! A block is a list of words, the fields in the order of `WORDS`. A pool is an order of slots, a record of numbers for each slot,
-//! and 1,476 bytes for each. The first entries of the order name the slots in use, front region then back region: of the receive
-//! pool the queue and the held segments, of the send pool those in flight and those that wait. An entry is the payload's length
-//! times 65,536 plus the slot. What stands in unused entries, records and bytes is no fault.
+//! A block is a list of words, in which `NUMBERS` says where each of its numbers stands. Each side is lent a ring of slots: records,
+//! and 1,476 bytes for each slot. Index i of a ring stands at the place (start + i) mod slots. A slot has a mark: 0 where nothing
+//! stands, and n + 1 where a payload of n bytes does.
 //!
-//! A state that is laid keeps the slots in which its segments stand already: so long runs of the port's calls use the slots that the
-//! port chose, also where other calls come between them.
+//! - Receive ring: one word for each slot, mark * 65,536 + frg. The first indices are the queue, and behind it each distance past
+//!   rcv_nxt has an index, as far as the ring reaches: held, or empty. So numbers are not stored.
+//! - Send ring: the marks of all slots, and behind them eight numbers for each slot. The first indices are in flight, as far as the
+//!   ring reaches, with gaps where an ack took a segment out of the middle; behind them stand those that wait, without gaps.
+//!
+//! What stands at other places is no fault, and nothing reads it. A state is laid where a random number says: at any start, most of
+//! them such that the wrap falls among what is in use, with gaps in flight, and with stale words at every other place. The random
+//! number is made of the state, so that a script that is run again finds the same places.
 
 use driver::call::{Sizes, PUSH};
+use driver::random::Random;
 use state::{Segment, State};
 
 pub const ROOM: usize = 1476;
 pub const WAITING: usize = 1500;
-/// sn, frg
-pub const RECEIVE_WIDTH: usize = 2;
-/// conv, frg, sn, ts, resendts, rto, fastack, xmit
-pub const SEND_WIDTH: usize = 8;
+/// How many words a block has.
+pub const WORDS: usize = 35;
+/// What a mark counts for in the word of a receive slot; the frg is below it.
+pub const MARK: u32 = 65536;
+/// The largest mark of a payload that fits.
+pub const MOST: u32 = ROOM as u32 + 1;
+/// The numbers of a send slot behind the marks: conv, frg, sn, ts, resendts, rto, fastack, xmit.
+pub const ROW: usize = 8;
+/// The bits of word 0 that are flags; the others are 0.
+const FLAGS: u32 = 64;
 
-/// The words of a block, in order.
-pub const WORDS: [&str; 40] = [
-    "conv", "mtu", "mss", "dead", "snd_una", "snd_nxt", "rcv_nxt", "ssthresh", "rx_rttval", "rx_srtt", "rx_rto", "rx_minrto",
-    "snd_wnd", "rcv_wnd", "rmt_wnd", "cwnd", "probe", "current", "interval", "ts_flush", "xmit", "nodelay", "updated", "ts_probe",
-    "probe_wait", "dead_link", "incr_low", "incr_high", "fastresend", "fastlimit", "nocwnd", "stream", "input_conv", "largest",
-    "queued", "held", "flying", "waiting_to_fly", "acks", "waiting",
+/// The numbers of a block: name, word, lowest bit there, and how many bits.
+pub const NUMBERS: [(&str, usize, u32, u32); 43] = [
+    ("nodelay", 0, 0, 1), ("nocwnd", 0, 1, 1), ("stream", 0, 2, 1), ("input_conv", 0, 3, 1), ("updated", 0, 4, 1), ("dead", 0, 5, 1),
+    ("mtu", 1, 0, 32), ("mss", 2, 0, 32), ("probe_wait", 3, 0, 32), ("rcv_nxt", 4, 0, 32), ("rcv_wnd", 5, 0, 16), ("largest", 5, 16, 16),
+    ("rcv_start", 6, 0, 32), ("queued", 7, 0, 32), ("rcv_reach", 8, 0, 32), ("snd_start", 9, 0, 32), ("snd_reach", 10, 0, 32),
+    ("flying", 11, 0, 32), ("unsent", 12, 0, 32), ("acks", 13, 0, 32), ("waiting", 14, 0, 32), ("probe", 15, 0, 32), ("conv", 16, 0, 32),
+    ("snd_una", 17, 0, 32), ("snd_nxt", 18, 0, 32), ("snd_wnd", 19, 0, 16), ("rmt_wnd", 19, 16, 16), ("cwnd", 20, 0, 16),
+    ("ssthresh", 20, 16, 16), ("incr_low", 21, 0, 32), ("incr_high", 22, 0, 32), ("rx_srtt", 23, 0, 32), ("rx_rttval", 24, 0, 32),
+    ("rx_rto", 25, 0, 32), ("rx_minrto", 26, 0, 32), ("current", 27, 0, 32), ("interval", 28, 0, 32), ("ts_flush", 29, 0, 32),
+    ("ts_probe", 30, 0, 32), ("xmit", 31, 0, 32), ("fastresend", 32, 0, 32), ("fastlimit", 33, 0, 32), ("dead_link", 34, 0, 32),
 ];
 
-#[derive(Clone, PartialEq, Eq)]
-pub struct Pool {
-    pub width: usize,
-    pub order: Vec<u32>,
-    pub records: Vec<u32>,
-    pub room: Vec<u8>,
+/// Where the number of that name stands: its word, its lowest bit, and its largest value.
+fn spot(name: &str) -> (usize, u32, u32) {
+    match NUMBERS.iter().find(|n| n.0 == name) {
+        Some((_, word, low, bits)) => (*word, *low, u32::MAX >> (32 - bits)),
+        None => panic!("a block has no number called '{}'", name),
+    }
 }
 
+/// The largest value of the number of that name.
+pub fn most(name: &str) -> u32 {
+    spot(name).2
+}
+
+/// The number of that name among the words of a block.
+pub fn number_of(words: &[u32], name: &str) -> u32 {
+    let (word, low, most) = spot(name);
+    words[word] >> low & most
+}
+
+fn put_number(words: &mut [u32], name: &str, value: u32) {
+    let (word, low, most) = spot(name);
+    assert!(value <= most, "{} has no room for {}", name, value);
+    words[word] = words[word] & !(most << low) | value << low;
+}
+
+/// The places of a ring's indices.
+#[derive(Clone, Copy, PartialEq, Eq, Debug)]
+pub struct Places {
+    pub slots: usize,
+    pub start: usize,
+}
+
+impl Places {
+    pub fn place(self, i: usize) -> usize {
+        (self.start % self.slots + i) % self.slots
+    }
+
+    /// The index that stands at a place.
+    pub fn index(self, place: usize) -> usize {
+        (place + self.slots - self.start % self.slots) % self.slots
+    }
+}
+
+#[derive(Clone, Copy, PartialEq, Eq, Debug)]
+pub struct RcvRing {
+    pub places: Places,
+    pub queued: usize,
+    pub reach: usize,
+}
+
+#[derive(Clone, Copy, PartialEq, Eq, Debug)]
+pub struct SndRing {
+    pub places: Places,
+    pub reach: usize,
+    pub flying: usize,
+    pub unsent: usize,
+}
+
+impl RcvRing {
+    pub fn of(words: &[u32], slots: usize) -> RcvRing {
+        let number = |name: &str| number_of(words, name) as usize;
+        RcvRing { places: Places { slots, start: number("rcv_start") }, queued: number("queued"), reach: number("rcv_reach") }
+    }
+
+    /// The first index behind what is in use.
+    pub fn end(&self) -> usize {
+        self.queued + self.reach
+    }
+}
+
+impl SndRing {
+    pub fn of(words: &[u32], slots: usize) -> SndRing {
+        let number = |name: &str| number_of(words, name) as usize;
+        SndRing {
+            places: Places { slots, start: number("snd_start") },
+            reach: number("snd_reach"),
+            flying: number("flying"),
+            unsent: number("unsent"),
+        }
+    }
+
+    pub fn end(&self) -> usize {
+        self.reach + self.unsent
+    }
+
+    pub fn segments(&self) -> usize {
+        self.flying + self.unsent
+    }
+
+    /// The first that wait are in flight, as many as the state says.
+    fn launch(&mut self, s: &State) {
+        let more = s.snd_buf.len() - self.flying;
+        self.reach += more;
+        self.flying += more;
+        self.unsent -= more;
+    }
+}
+
+/// What one side is lent.
 #[derive(Clone, PartialEq, Eq)]
-pub struct Memory {
-    pub words: Vec<u32>,
-    pub receive: Pool,
-    pub send: Pool,
-    pub acks: Vec<u32>,
-    pub waiting: Vec<u8>,
-    /// Sets in which slots the next state is laid.
-    turn: usize,
+pub struct Lent {
+    pub records: Vec<u32>,
+    pub room: Vec<u8>,
 }
 
 /// What old contents look like.
 const STALE: u32 = 0xDEAD_BEEF;
 
-impl Pool {
-    pub fn new(slots: usize, width: usize) -> Pool {
-        Pool { width, order: vec![STALE; slots], records: vec![STALE; slots * width], room: vec![0xEE; slots * ROOM] }
+impl Lent {
+    /// So many slots, with so many numbers for each.
+    pub fn new(slots: usize, width: usize) -> Lent {
+        Lent { records: vec![STALE; slots * width], room: vec![0xEE; slots * ROOM] }
     }
 
-    /// Whether the front of the order holds the payloads of just these segments, each in a slot of its own.
-    fn holds<'a>(&self, segments: impl Iterator<Item = (&'a Segment, Vec<u32>)>) -> bool {
-        let mut used = vec![false; self.order.len()];
-        for (n, (segment, _)) in segments.enumerate() {
-            let entry = self.order.get(n).map_or(usize::MAX, |x| *x as usize);
-            let (slot, len) = (entry % 65536, entry / 65536);
-            if slot >= used.len() || used[slot] || len != segment.data.len() {
-                return false;
-            }
-            used[slot] = true;
-            if self.room[slot * ROOM..][..len] != segment.data[..] {
-                return false;
-            }
-        }
-        true
+    pub fn resize(&mut self, slots: usize, width: usize) {
+        self.records.resize(slots * width, 0);
+        self.room.resize(slots * ROOM, 0);
     }
 
-    /// Puts the segments into slots that are scattered by `turn`; where their payloads stand in slots already, these stay, and the
-    /// numbers alone are written.
-    fn lay<'a>(&mut self, turn: usize, segments: impl Iterator<Item = (&'a Segment, Vec<u32>)> + Clone) {
-        let stay = self.holds(segments.clone());
-        let slots = self.order.len();
-        let step = stride(slots);
-        for (n, (segment, numbers)) in segments.enumerate() {
-            let len = segment.data.len();
-            let slot = if stay { self.order[n] as usize % 65536 } else { (turn + n * step) % slots };
-            self.records[slot * self.width..][..self.width].copy_from_slice(&numbers);
-            if !stay {
-                self.order[n] = (len * 65536 + slot) as u32;
-                self.room[slot * ROOM..][..len].copy_from_slice(&segment.data);
-            }
-        }
+    /// The payload at a place whose slot has this mark; no more than the slot's bytes.
+    fn payload(&self, place: usize, mark: u32) -> &[u8] {
+        &self.room[place * ROOM..][..(mark.saturating_sub(1) as usize).min(ROOM)]
     }
 
-    /// Reads segments, with their payloads or without.
-    fn read(&self, from: usize, count: usize, whole: bool, into: &mut Vec<Segment>, of: fn(&[u32]) -> Segment) {
-        into.resize_with(count, Segment::default);
-        for (i, segment) in into.iter_mut().enumerate() {
-            let entry = self.order[from + i] as usize;
-            let (slot, len) = (entry % 65536, if whole { entry / 65536 } else { 0 });
-            segment.set(of(&self.records[slot * self.width..][..self.width]), &self.room[slot * ROOM..][..len]);
-        }
+    fn put_payload(&mut self, place: usize, data: &[u8]) {
+        self.room[place * ROOM..][..data.len()].copy_from_slice(data);
     }
 }
 
-/// A step that visits each of `slots` places once.
-fn stride(slots: usize) -> usize {
-    (7..).step_by(2).find(|k| gcd(*k, slots) == 1).unwrap_or(1)
+fn mark_of(s: &Segment) -> u32 {
+    s.data.len() as u32 + 1
 }
 
-fn gcd(a: usize, b: usize) -> usize {
-    if b == 0 {
-        a
-    } else {
-        gcd(b, a % b)
-    }
+/// The word of a receive slot.
+fn word_of(s: &Segment) -> u32 {
+    mark_of(s) * MARK + s.frg as u32
 }
 
-fn received(s: &Segment) -> Vec<u32> {
-    vec![s.sn, s.frg as u32]
+/// The numbers of a send slot.
+fn row_of(s: &Segment) -> [u32; ROW] {
+    [s.conv, s.frg as u32, s.sn, s.ts, s.resendts, s.rto, s.fastack, s.xmit]
 }
 
-fn as_received(n: &[u32]) -> Segment {
-    Segment { sn: n[0], frg: n[1] as u8, ..Segment::default() }
-}
-
-fn to_send(s: &Segment) -> Vec<u32> {
-    vec![s.conv, s.frg as u32, s.sn, s.ts, s.resendts, s.rto, s.fastack, s.xmit]
-}
-
-fn as_flying(n: &[u32]) -> Segment {
-    Segment { cmd: PUSH, ..as_waiting(n) }
-}
-
-fn as_waiting(n: &[u32]) -> Segment {
+fn of_row(n: &[u32], cmd: u8) -> Segment {
     Segment {
         conv: n[0],
+        cmd,
         frg: n[1] as u8,
         sn: n[2],
         ts: n[3],
@@ -141,122 +200,336 @@ fn as_waiting(n: &[u32]) -> Segment {
     }
 }
 
+/// Overwrites segments, and keeps the memory of their payloads.
+fn refill<'a>(into: &mut Vec<Segment>, from: impl Iterator<Item = (Segment, &'a [u8])>) {
+    let mut n = 0;
+    for (numbers, data) in from {
+        if n == into.len() {
+            into.push(Segment::default());
+        }
+        into[n].set(numbers, data);
+        n += 1;
+    }
+    into.truncate(n);
+}
+
+// ---- where a state is laid
+
+/// The starts of the rings, how far the receive ring reaches past the last held segment, how many gaps stand behind each segment in
+/// flight, and what the stale words are made of.
+#[derive(Clone, PartialEq, Eq, Debug)]
+pub struct Shape {
+    pub rcv_start: usize,
+    pub past: usize,
+    pub snd_start: usize,
+    pub gaps: Vec<usize>,
+    pub stale: u64,
+}
+
+/// How far the held segments lie past the next number awaited.
+fn distances(s: &State) -> impl Iterator<Item = usize> + '_ {
+    s.rcv_buf.iter().map(move |x| x.sn.wrapping_sub(s.rcv_nxt) as usize)
+}
+
+/// How far the receive ring must reach.
+fn reach_of(s: &State) -> usize {
+    distances(s).last().map_or(0, |d| d + 1)
+}
+
+impl Shape {
+    /// All from the first place on, and no gaps.
+    pub fn plain(s: &State) -> Shape {
+        Shape { rcv_start: 0, past: 0, snd_start: 0, gaps: vec![0; s.snd_buf.len()], stale: 0 }
+    }
+
+    pub fn random(r: &mut Random, s: &State, sizes: Sizes) -> Shape {
+        let (flying, unsent) = (s.snd_buf.len(), s.snd_queue.len());
+        let gaps = random_gaps(r, flying, sizes.send - flying - unsent);
+        let past = if r.once_in(4) { r.below(s.largest as usize - reach_of(s) + 1) } else { 0 };
+        let received = s.rcv_queue.len() + reach_of(s) + past;
+        let to_send = flying + unsent + gaps.iter().sum::<usize>();
+        let (rcv_start, snd_start) = (random_start(r, sizes.receive, received), random_start(r, sizes.send, to_send));
+        Shape { rcv_start, past, snd_start, gaps, stale: r.next() }
+    }
+
+    /// The random shape that this state is laid in.
+    fn of(s: &State, sizes: Sizes) -> Shape {
+        let lengths = [s.rcv_queue.len(), s.rcv_buf.len(), s.snd_buf.len(), s.snd_queue.len(), s.acklist.len()];
+        let numbers = [s.rcv_nxt, s.snd_una, s.snd_nxt, s.current, s.xmit];
+        let all = lengths.iter().map(|n| *n as u64).chain(numbers.iter().map(|n| *n as u64));
+        let seed = all.fold(0, |seed, n| Random::new(seed ^ n).next());
+        Shape::random(&mut Random::new(seed), s, sizes)
+    }
+}
+
+/// Any start, or one by which the wrap falls among the indices in use or just behind them.
+fn random_start(r: &mut Random, slots: usize, used: usize) -> usize {
+    if r.once_in(3) {
+        return r.below(slots);
+    }
+    (slots - r.below(used + 1)) % slots
+}
+
+/// Gaps behind each segment in flight; there may be so many in all.
+fn random_gaps(r: &mut Random, flying: usize, free: usize) -> Vec<usize> {
+    let mut gaps = vec![0; flying];
+    if flying > 0 {
+        let most = r.pick(&[0, 0, 1, 3, free / 2, free]).min(free);
+        let count = if r.once_in(2) { most } else { r.below(most + 1) };
+        let behind = if r.once_in(2) { r.below(flying) } else { flying };
+        for _ in 0..count {
+            let i = if behind < flying { behind } else { r.below(flying) };
+            gaps[i] += 1;
+        }
+    }
+    gaps
+}
+
+/// Stale words, of which some look as if they were in use.
+fn stale(r: &mut Random, words: &mut [u32], seems: fn(&mut Random) -> u32) {
+    for word in words {
+        *word = match r.below(4) {
+            0 => STALE,
+            1 => r.word(),
+            2 => 0,
+            _ => seems(r),
+        };
+    }
+}
+
+// ---- the memory
+
+#[derive(Clone, PartialEq, Eq)]
+pub struct Memory {
+    pub words: Vec<u32>,
+    pub receive: Lent,
+    pub send: Lent,
+    pub acks: Vec<u32>,
+    pub waiting: Vec<u8>,
+}
+
 impl Memory {
     pub fn new(sizes: Sizes) -> Memory {
         Memory {
-            words: vec![STALE; WORDS.len()],
-            receive: Pool::new(sizes.receive, RECEIVE_WIDTH),
-            send: Pool::new(sizes.send, SEND_WIDTH),
+            words: vec![STALE; WORDS],
+            receive: Lent::new(sizes.receive, 1),
+            send: Lent::new(sizes.send, 1 + ROW),
             acks: vec![STALE; 2 * sizes.acks],
             waiting: vec![0xEE; WAITING],
-            turn: 0,
         }
     }
 
     /// The sizes of what is lent.
     pub fn sizes(&self) -> Sizes {
-        Sizes { receive: self.receive.order.len(), send: self.send.order.len(), acks: self.acks.len() / 2 }
+        Sizes { receive: self.receive.records.len(), send: self.send.records.len() / (1 + ROW), acks: self.acks.len() / 2 }
     }
 
     /// The bytes of all that is lent, the words of the block among them.
     pub fn bytes(&self) -> usize {
-        let pool = |p: &Pool| 4 * (p.order.len() + p.records.len()) + p.room.len();
-        4 * (self.words.len() + self.acks.len()) + self.waiting.len() + pool(&self.receive) + pool(&self.send)
+        let lent = |l: &Lent| 4 * l.records.len() + l.room.len();
+        4 * (self.words.len() + self.acks.len()) + self.waiting.len() + lent(&self.receive) + lent(&self.send)
     }
 
-    /// The number of that name among the words of a block.
-    pub fn word_of(words: &[u32], name: &str) -> u32 {
-        WORDS.iter().position(|w| *w == name).map_or(0, |i| words[i])
+    pub fn number(&self, name: &str) -> u32 {
+        number_of(&self.words, name)
     }
 
-    pub fn word(&self, name: &str) -> u32 {
-        Memory::word_of(&self.words, name)
+    pub fn set_number(&mut self, name: &str, value: u32) {
+        put_number(&mut self.words, name, value)
     }
 
-    pub fn set_word(&mut self, name: &str, value: u32) {
-        if let Some(i) = WORDS.iter().position(|w| *w == name) {
-            self.words[i] = value;
-        }
+    pub fn rcv_ring(&self) -> RcvRing {
+        RcvRing::of(&self.words, self.sizes().receive)
     }
+
+    pub fn snd_ring(&self) -> SndRing {
+        SndRing::of(&self.words, self.sizes().send)
+    }
+
+    /// The word at an index of the receive ring, and the mark at one of the send ring.
+    pub fn received(&mut self, i: usize) -> &mut u32 {
+        let place = self.rcv_ring().places.place(i);
+        &mut self.receive.records[place]
+    }
+
+    pub fn mark(&mut self, i: usize) -> &mut u32 {
+        let place = self.snd_ring().places.place(i);
+        &mut self.send.records[place]
+    }
+
+    /// The places of the segments in flight, and of those that wait.
+    fn to_send(&self) -> (Vec<usize>, Vec<usize>) {
+        let ring = self.snd_ring();
+        let live = |place: &usize| self.send.records[*place] != 0;
+        let (reach, end) = (ring.reach.min(ring.places.slots), ring.end().min(ring.places.slots));
+        let place = |i| ring.places.place(i);
+        ((0..reach).map(place).filter(live).collect(), (reach..end).map(place).collect())
+    }
+
+    /// How many segments are held.
+    pub fn held(&self) -> usize {
+        let ring = self.rcv_ring();
+        (ring.queued..ring.end()).filter(|i| self.receive.records[ring.places.place(*i)] >= MARK).count()
+    }
+
+    // ---- laying
 
     /// Whether the state has a place in memory of this size: every state that the domain of equality allows has one.
     pub fn fits(&self, s: &State) -> bool {
-        s.rcv_queue.len() + s.rcv_buf.len() <= self.receive.order.len()
-            && s.snd_buf.len() + s.snd_queue.len() <= self.send.order.len()
-            && 2 * s.acklist.len() <= self.acks.len()
+        let first = s.rcv_nxt.wrapping_sub(s.rcv_queue.len() as u32);
+        s.rcv_queue.iter().enumerate().all(|(i, x)| x.sn == first.wrapping_add(i as u32))
+            && s.rcv_queue.len() <= s.largest as usize
+            && distances(s).all(|d| d < s.largest as usize)
+            && 2 * s.largest as usize <= self.sizes().receive
+            && s.snd_buf.len() + s.snd_queue.len() <= self.sizes().send
+            && s.acklist.len() <= self.sizes().acks
             && s.buf.len() <= self.waiting.len()
             && s.rcv_queue.iter().chain(&s.rcv_buf).chain(&s.snd_buf).chain(&s.snd_queue).all(|x| x.data.len() <= ROOM)
     }
 
-    /// Lays the state; it must fit.
-    pub fn lay(&mut self, s: &State) {
-        self.turn = self.turn.wrapping_add(13) % 4096;
-        self.receive.lay(self.turn, s.rcv_queue.iter().chain(&s.rcv_buf).map(|x| (x, received(x))));
-        self.send.lay(self.turn, s.snd_buf.iter().chain(&s.snd_queue).map(|x| (x, to_send(x))));
-        self.lay_rest(s);
+    /// Lays the state, which must fit. Where its segments stand in their slots already, these stay, if that is wanted: so long runs
+    /// of the port's calls use the slots that the port chose, also where other calls come between them.
+    pub fn lay(&mut self, s: &State, stay: bool) {
+        let shape = Shape::of(s, self.sizes());
+        let stands = stay && self.stands(s);
+        let rcv = if stands { self.rcv_ring() } else { self.lay_received(s, &shape) };
+        let launched = if stay { self.launched(s) } else { None };
+        let snd = launched.unwrap_or_else(|| self.lay_to_send(s, &shape));
+        self.lay_rest(s, rcv, snd);
+    }
+
+    /// Lays the state in this shape.
+    pub fn lay_as(&mut self, s: &State, shape: &Shape) {
+        let (rcv, snd) = (self.lay_received(s, shape), self.lay_to_send(s, shape));
+        self.lay_rest(s, rcv, snd);
     }
 
     /// Lays the numbers of a state whose segments stand in their slots already, as after a flush: which are the same and in the
     /// same order, and have not changed their payloads.
     pub fn lay_numbers(&mut self, s: &State) {
-        for (n, segment) in s.snd_buf.iter().chain(&s.snd_queue).enumerate() {
-            let slot = self.send.order[n] as usize % 65536;
-            self.send.records[slot * SEND_WIDTH..][..SEND_WIDTH].copy_from_slice(&to_send(segment));
-        }
-        self.lay_rest(s);
+        let (rcv, mut snd) = (self.rcv_ring(), self.snd_ring());
+        snd.launch(s);
+        self.lay_rest(s, rcv, snd);
     }
 
-    /// Lays all but the segments.
-    fn lay_rest(&mut self, s: &State) {
+    /// Whether the receive ring holds just what the state has received.
+    fn stands(&self, s: &State) -> bool {
+        if self.receive_fault().is_some() {
+            return false;
+        }
+        let ring = self.rcv_ring();
+        if ring.queued != s.rcv_queue.len() || ring.reach < reach_of(s) || ring.reach > s.largest as usize {
+            return false;
+        }
+        let is = |i: usize, x: Option<&Segment>| {
+            let place = ring.places.place(i);
+            let word = self.receive.records[place];
+            x.map_or(word < MARK, |x| word == word_of(x) && self.receive.payload(place, word / MARK) == &x.data[..])
+        };
+        let mut held = s.rcv_buf.iter().zip(distances(s)).peekable();
+        s.rcv_queue.iter().enumerate().all(|(i, x)| is(i, Some(x)))
+            && (0..ring.reach).all(|d| {
+                let here = held.peek().map_or(false, |x| x.1 == d);
+                is(ring.queued + d, if here { held.next().map(|x| x.0) } else { None })
+            })
+    }
+
+    /// The send ring, if it holds just what the state is to send, of which some that waited may be in flight now.
+    fn launched(&self, s: &State) -> Option<SndRing> {
+        let mut ring = self.snd_ring();
+        if self.send_fault().is_some() || ring.segments() != s.snd_buf.len() + s.snd_queue.len() || ring.flying > s.snd_buf.len() {
+            return None;
+        }
+        let (flying, waiting) = self.to_send();
+        let is = |(place, x): (&usize, &Segment)| {
+            let mark = self.send.records[*place];
+            mark == mark_of(x) && self.send.payload(*place, mark) == &x.data[..]
+        };
+        if !flying.iter().chain(&waiting).zip(s.snd_buf.iter().chain(&s.snd_queue)).all(is) {
+            return None;
+        }
+        ring.launch(s);
+        Some(ring)
+    }
+
+    fn lay_received(&mut self, s: &State, shape: &Shape) -> RcvRing {
+        let places = Places { slots: self.sizes().receive, start: shape.rcv_start };
+        let ring = RcvRing { places, queued: s.rcv_queue.len(), reach: reach_of(s) + shape.past };
+        stale(&mut Random::new(shape.stale), &mut self.receive.records, |r| r.between(1, MOST) * MARK + r.below(256) as u32);
+        for i in ring.queued..ring.end() {
+            // an empty one may have any frg
+            self.receive.records[places.place(i)] %= MARK;
+        }
+        let held = s.rcv_buf.iter().zip(distances(s)).map(|(x, d)| (ring.queued + d, x));
+        for (i, x) in s.rcv_queue.iter().enumerate().chain(held) {
+            self.receive.records[places.place(i)] = word_of(x);
+            self.receive.put_payload(places.place(i), &x.data);
+        }
+        ring
+    }
+
+    fn lay_to_send(&mut self, s: &State, shape: &Shape) -> SndRing {
+        let places = Places { slots: self.sizes().send, start: shape.snd_start };
+        stale(&mut Random::new(!shape.stale), &mut self.send.records[..places.slots], |r| r.between(1, MOST));
+        let mut end = 0;
+        for (x, gaps) in s.snd_buf.iter().zip(&shape.gaps) {
+            self.lay_segment(places.place(end), x);
+            (end + 1..=end + gaps).for_each(|i| self.send.records[places.place(i)] = 0);
+            end += 1 + gaps;
+        }
+        for (i, x) in s.snd_queue.iter().enumerate() {
+            self.lay_segment(places.place(end + i), x);
+        }
+        SndRing { places, reach: end, flying: s.snd_buf.len(), unsent: s.snd_queue.len() }
+    }
+
+    fn lay_segment(&mut self, place: usize, x: &Segment) {
+        self.send.records[place] = mark_of(x);
+        self.send.put_payload(place, &x.data);
+    }
+
+    /// Lays all but the payloads.
+    fn lay_rest(&mut self, s: &State, rcv: RcvRing, snd: SndRing) {
         for (i, (sn, ts)) in s.acklist.iter().enumerate() {
             self.acks[2 * i] = *sn;
             self.acks[2 * i + 1] = *ts;
         }
         self.waiting[..s.buf.len()].copy_from_slice(&s.buf);
-        let incr = s.incr as u64;
-        self.words = vec![
-            s.conv,
-            s.mtu as u32,
-            s.mss as u32,
-            (s.state != 0) as u32,
-            s.snd_una,
-            s.snd_nxt,
-            s.rcv_nxt,
-            s.ssthresh as u32,
-            s.rx_rttval,
-            s.rx_srtt,
-            s.rx_rto,
-            s.rx_minrto,
-            s.snd_wnd as u32,
-            s.rcv_wnd as u32,
-            s.rmt_wnd as u32,
-            s.cwnd as u32,
-            s.probe,
-            s.current,
-            s.interval,
-            s.ts_flush,
-            s.xmit,
-            s.nodelay as u32,
-            s.updated as u32,
-            s.ts_probe,
-            s.probe_wait,
-            s.dead_link,
-            incr as u32,
-            (incr >> 32) as u32,
-            s.fastresend,
-            s.fastlimit,
-            s.nocwnd as u32,
-            s.stream as u32,
-            s.input_conv as u32,
-            s.largest as u32,
-            s.rcv_queue.len() as u32,
-            s.rcv_buf.len() as u32,
-            s.snd_buf.len() as u32,
-            s.snd_queue.len() as u32,
-            s.acklist.len() as u32,
-            s.buf.len() as u32,
+        self.lay_words(s);
+        let rings = [
+            ("rcv_start", rcv.places.start), ("queued", rcv.queued), ("rcv_reach", rcv.reach), ("snd_start", snd.places.start),
+            ("snd_reach", snd.reach), ("flying", snd.flying), ("unsent", snd.unsent),
         ];
+        for (name, value) in rings.iter() {
+            self.set_number(name, *value as u32);
+        }
+        let (flying, waiting) = self.to_send();
+        for (place, x) in flying.iter().chain(&waiting).zip(s.snd_buf.iter().chain(&s.snd_queue)) {
+            self.send.records[snd.places.slots + place * ROW..][..ROW].copy_from_slice(&row_of(x));
+        }
     }
+
+    /// Lays the words, but for those of the rings.
+    fn lay_words(&mut self, s: &State) {
+        self.words = vec![0; WORDS];
+        let incr = s.incr as u64;
+        let numbers = [
+            ("nodelay", s.nodelay as u32), ("nocwnd", s.nocwnd as u32), ("stream", s.stream as u32), ("input_conv", s.input_conv as u32),
+            ("updated", s.updated as u32), ("dead", (s.state != 0) as u32), ("mtu", s.mtu as u32), ("mss", s.mss as u32),
+            ("probe_wait", s.probe_wait), ("rcv_nxt", s.rcv_nxt), ("rcv_wnd", s.rcv_wnd as u32), ("largest", s.largest as u32),
+            ("acks", s.acklist.len() as u32), ("waiting", s.buf.len() as u32), ("probe", s.probe), ("conv", s.conv), ("snd_una", s.snd_una),
+            ("snd_nxt", s.snd_nxt), ("snd_wnd", s.snd_wnd as u32), ("rmt_wnd", s.rmt_wnd as u32), ("cwnd", s.cwnd as u32),
+            ("ssthresh", s.ssthresh as u32), ("incr_low", incr as u32), ("incr_high", (incr >> 32) as u32), ("rx_srtt", s.rx_srtt),
+            ("rx_rttval", s.rx_rttval), ("rx_rto", s.rx_rto), ("rx_minrto", s.rx_minrto), ("current", s.current), ("interval", s.interval),
+            ("ts_flush", s.ts_flush), ("ts_probe", s.ts_probe), ("xmit", s.xmit), ("fastresend", s.fastresend), ("fastlimit", s.fastlimit),
+            ("dead_link", s.dead_link),
+        ];
+        for (name, value) in numbers.iter() {
+            self.set_number(name, *value);
+        }
+    }
+
+    // ---- reading
 
     /// The state that the memory holds.
     pub fn read(&self, s: &mut State) {
@@ -269,11 +542,21 @@ impl Memory {
     }
 
     fn read_parts(&self, s: &mut State, whole: bool) {
-        let w = |name: &str| self.word(name);
-        let count = |name: &str| self.word(name) as usize;
+        self.read_words(s);
+        self.read_received(s, whole);
+        self.read_to_send(s, whole);
+        let acks = (self.number("acks") as usize).min(self.sizes().acks);
+        s.acklist.clear();
+        s.acklist.extend((0..acks).map(|i| (self.acks[2 * i], self.acks[2 * i + 1])));
+        s.buf.clear();
+        s.buf.extend_from_slice(&self.waiting[..(self.number("waiting") as usize).min(self.waiting.len())]);
+    }
+
+    fn read_words(&self, s: &mut State) {
+        let w = |name: &str| self.number(name);
         s.conv = w("conv");
-        s.mtu = count("mtu");
-        s.mss = count("mss");
+        s.mtu = w("mtu") as usize;
+        s.mss = w("mss") as usize;
         s.state = -(w("dead") as i32);
         s.snd_una = w("snd_una");
         s.snd_nxt = w("snd_nxt");
@@ -297,22 +580,116 @@ impl Memory {
         s.ts_probe = w("ts_probe");
         s.probe_wait = w("probe_wait");
         s.dead_link = w("dead_link");
-        s.incr = count("incr_low") | count("incr_high") << 32;
+        s.incr = w("incr_low") as usize | (w("incr_high") as usize) << 32;
         s.fastresend = w("fastresend");
         s.fastlimit = w("fastlimit");
         s.nocwnd = w("nocwnd") != 0;
         s.stream = w("stream") != 0;
         s.input_conv = w("input_conv") != 0;
         s.largest = w("largest") as u16;
-        let (queued, held) = (count("queued"), count("held"));
-        self.receive.read(0, queued, whole, &mut s.rcv_queue, as_received);
-        self.receive.read(queued, held, whole, &mut s.rcv_buf, as_received);
-        let (flying, waiting) = (count("flying"), count("waiting_to_fly"));
-        self.send.read(0, flying, whole, &mut s.snd_buf, as_flying);
-        self.send.read(flying, waiting, whole, &mut s.snd_queue, as_waiting);
-        s.acklist.clear();
-        s.acklist.extend((0..count("acks")).map(|i| (self.acks[2 * i], self.acks[2 * i + 1])));
-        s.buf.clear();
-        s.buf.extend_from_slice(&self.waiting[..count("waiting")]);
     }
+
+    fn read_received(&self, s: &mut State, whole: bool) {
+        let ring = self.rcv_ring();
+        let first = s.rcv_nxt.wrapping_sub(ring.queued as u32);
+        let at = |i: usize| {
+            let place = ring.places.place(i);
+            let word = self.receive.records[place];
+            let numbers = Segment { sn: first.wrapping_add(i as u32), frg: word as u8, ..Segment::default() };
+            (word >= MARK, numbers, self.receive.payload(place, if whole { word / MARK } else { 0 }))
+        };
+        // were the port to leave numbers that no ring has, they would still be read, and told as a difference
+        let (queued, end) = (ring.queued.min(ring.places.slots), ring.end().min(ring.places.slots));
+        refill(&mut s.rcv_queue, (0..queued).map(at).map(|(_, numbers, data)| (numbers, data)));
+        refill(&mut s.rcv_buf, (queued..end).map(at).filter(|x| x.0).map(|(_, numbers, data)| (numbers, data)));
+    }
+
+    fn read_to_send(&self, s: &mut State, whole: bool) {
+        let slots = self.sizes().send;
+        let (flying, waiting) = self.to_send();
+        let at = |place: &usize, cmd: u8| {
+            let row = &self.send.records[slots + place * ROW..][..ROW];
+            (of_row(row, cmd), self.send.payload(*place, if whole { self.send.records[*place] } else { 0 }))
+        };
+        refill(&mut s.snd_buf, flying.iter().map(|place| at(place, PUSH)));
+        refill(&mut s.snd_queue, waiting.iter().map(|place| at(place, 0)));
+    }
+
+    // ---- what is well formed, and what is refused by 15 since it is not
+
+    /// What is wrong with the block and all that is lent, in words.
+    pub fn fault(&self) -> Option<&'static str> {
+        self.receive_fault().or_else(|| self.send_fault()).or_else(|| self.ack_fault())
+    }
+
+    /// What is wrong with the block alone.
+    fn own_fault(&self) -> Option<&'static str> {
+        if self.words.len() != WORDS || self.words[0] >= FLAGS {
+            return Some("the words are no block");
+        }
+        let n = |name: &str| self.number(name) as usize;
+        let (mtu, window, largest, wait) = (n("mtu"), n("rcv_wnd"), n("largest"), n("probe_wait"));
+        first(&[
+            ((50..=1500).contains(&mtu) && n("mss") == mtu.wrapping_sub(24), "mtu or mss"),
+            (wait == 0 || (7000..=120_000).contains(&wait), "probe_wait"),
+            (128 <= window && window <= largest && largest <= 512, "a receive window"),
+            (n("queued") <= largest && n("rcv_reach") <= largest && n("rcv_start") < 1024, "the receive ring's numbers"),
+            (n("snd_reach") + n("unsent") <= 1024 && n("snd_start") < 1024, "the send ring's numbers"),
+            (n("flying") <= n("snd_reach") && (n("snd_reach") == 0 || n("flying") > 0), "how many are in flight"),
+            (n("acks") <= 4096 && n("waiting") <= WAITING, "acks or waiting bytes"),
+        ])
+    }
+
+    /// What is wrong with the block and the receive memory.
+    pub fn receive_fault(&self) -> Option<&'static str> {
+        if let Some(fault) = self.own_fault() {
+            return Some(fault);
+        }
+        let (ring, records) = (self.rcv_ring(), &self.receive.records);
+        let slots = records.len();
+        if !(256..=1024).contains(&slots) || self.receive.room.len() != slots * ROOM {
+            return Some("the size of the receive memory");
+        }
+        let marks = |from: usize, to: usize, low: u32| (from..to).all(|i| (low..=MOST).contains(&(records[ring.places.place(i)] / MARK)));
+        first(&[
+            (ring.places.start < slots && 2 * self.number("largest") as usize <= slots, "the receive ring beside its slots"),
+            (marks(0, ring.queued, 1), "a mark in the queue"),
+            (marks(ring.queued, ring.end(), 0), "a mark in the receive ring's reach"),
+        ])
+    }
+
+    /// What is wrong with the block and the send memory.
+    pub fn send_fault(&self) -> Option<&'static str> {
+        if let Some(fault) = self.own_fault() {
+            return Some(fault);
+        }
+        let (ring, records) = (self.snd_ring(), &self.send.records);
+        let slots = ring.places.slots;
+        if !(128..=1024).contains(&slots) || records.len() != slots * (1 + ROW) || self.send.room.len() != slots * ROOM {
+            return Some("the size of the send memory");
+        }
+        if ring.places.start >= slots || ring.end() > slots {
+            return Some("the send ring beside its slots");
+        }
+        let mark = |i: usize| records[ring.places.place(i)];
+        first(&[
+            ((0..ring.reach).all(|i| mark(i) <= MOST), "a mark in flight"),
+            ((ring.reach..ring.end()).all(|i| (1..=MOST).contains(&mark(i))), "a mark of what waits"),
+            ((0..ring.reach).filter(|i| mark(*i) > 0).count() == ring.flying, "the count of those in flight"),
+            (ring.reach == 0 || mark(0) > 0, "a gap at the front"),
+        ])
+    }
+
+    fn ack_fault(&self) -> Option<&'static str> {
+        first(&[
+            (self.acks.len() % 2 == 0 && (128..=4096).contains(&(self.acks.len() / 2)), "the size of the ack list"),
+            (self.number("acks") as usize <= self.acks.len() / 2, "more acks than the list holds"),
+            (self.waiting.len() == WAITING, "the size of the waiting bytes"),
+        ])
+    }
+}
+
+/// The first rule that does not hold.
+fn first(rules: &[(bool, &'static str)]) -> Option<&'static str> {
+    rules.iter().find(|rule| !rule.0).map(|rule| rule.1)
 }

@@ -1,8 +1,8 @@
 //! Times the published Rust and the port on the same inputs, in one process. oracle/bench builds and runs it.
 
+mod alone;
 mod clock;
 mod held;
-mod lent;
 mod ours;
 mod rows;
 mod rust;
@@ -48,8 +48,8 @@ fn main() {
     }
     let held = held::figures();
     let lines = time_all(progress);
-    let lent = time_lent();
-    let text = if csv { as_csv(&lines, &held, &lent) } else { as_tables(&lines, &held, &lent) };
+    let alone = time_alone();
+    let text = if csv { as_csv(&lines, &held, &alone) } else { as_tables(&lines, &held, &alone) };
     // In one piece and at the end, so that whoever reads it gets all or nothing.
     if let Err(error) = std::io::stdout().write_all(text.as_bytes()) {
         give_up(&format!("the table could not be written: {}", error));
@@ -78,14 +78,14 @@ fn time_all(progress: bool) -> Vec<Line> {
     lines
 }
 
-/// The lent memory by itself: there is nothing of the Rust's to compare with.
-fn time_lent() -> Vec<Line> {
+/// Ours alone: there is nothing of the Rust's to compare with.
+fn time_alone() -> Vec<Line> {
     let clock = clock::cost();
     let time = |(name, ours)| {
         let figures = clock::rounds(vec![Some(ours)], clock);
         Line { name, rust: None, ours: figures[0] }
     };
-    lent::all().into_iter().map(time).collect()
+    alone::all().into_iter().map(time).collect()
 }
 
 fn csv_figures(text: &mut String, figures: Option<Figures>) {
@@ -95,9 +95,9 @@ fn csv_figures(text: &mut String, figures: Option<Figures>) {
     };
 }
 
-fn as_csv(lines: &[Line], held: &[(&str, usize)], lent: &[Line]) -> String {
+fn as_csv(lines: &[Line], held: &[(&str, usize)], alone: &[Line]) -> String {
     let mut text = String::new();
-    for line in lines.iter().chain(lent) {
+    for line in lines.iter().chain(alone) {
         let _ = write!(text, "{},", line.name);
         csv_figures(&mut text, line.rust);
         csv_figures(&mut text, line.ours);
@@ -136,7 +136,7 @@ fn table(text: &mut String, title: &str, lines: &[Line], none: [&str; 2]) {
     }
 }
 
-fn as_tables(lines: &[Line], held: &[(&str, usize)], lent: &[Line]) -> String {
+fn as_tables(lines: &[Line], held: &[(&str, usize)], alone: &[Line]) -> String {
     let mut text = String::new();
     table(&mut text, "row, ns", lines, ["", "not yet"]);
     let _ = writeln!(text, "\n{:36}{:>12}{:>24}", "bytes a connection", "Rust", "ours");
@@ -147,9 +147,9 @@ fn as_tables(lines: &[Line], held: &[(&str, usize)], lent: &[Line]) -> String {
             None => writeln!(text, "{:>24}", "not yet"),
         };
     }
-    if !lent.is_empty() {
+    if !alone.is_empty() {
         text.push('\n');
-        table(&mut text, "lent memory, ns", lent, ["-", ""]);
+        table(&mut text, "ours alone, ns", alone, ["-", ""]);
     }
     // All depend on it: on its code, and on how its library's lists grow.
     let _ = writeln!(text, "\nThe Rust built by {}", option_env!("BUILT_BY").unwrap_or("an unknown compiler"));

@@ -120,15 +120,15 @@ impl Side for Ours {
     fn forget(&mut self) {}
 
     fn forget_acks(&mut self) {
-        self.memory.set_word("acks", 0)
+        self.memory.set_number("acks", 0)
     }
 
     fn sizes(&mut self) -> Sizes {
-        let count = |name: &str| self.memory.word(name) as usize;
+        let count = |name: &str| self.memory.number(name) as usize;
         Sizes {
-            queued: count("waiting_to_fly"),
+            queued: count("unsent"),
             in_flight: count("flying"),
-            held: count("held"),
+            held: self.memory.held(),
             readable: count("queued"),
             acks: count("acks"),
             datagrams: 0,
