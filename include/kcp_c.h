@@ -57,6 +57,7 @@ enum {
    The ack list has 2 numbers for each of 128 to 4,096 pairs, and 1,500 bytes are for what waits.
    What stands at indices that are not in use is no fault. A ring with nothing in use may start anywhere, and a call that empties it
    leaves its start at slot 0.
+   A slot's place hangs on the count of slots, so a ring keeps its size while anything of it is in use.
 
    15 (BadPool) is for words that are no block, a size outside these limits, and what is not well formed. A call that is handed any of
    this memory tests it, and the block's own numbers: mtu from 50 to 1,500 and mss = mtu - 24; probe_wait 0, or from 7,000 to 120,000;
