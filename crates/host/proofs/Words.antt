@@ -121,3 +121,11 @@ module _ (m : Lent) (k : Kcp) (l : List ℕ) where
       let made : (lentSizes m ≡ true) × (b ≡ k) = made-block (lentSizes m) (sym (e .answer) ∙ r) in
       let can : canMake m l ≡ true = rw (eq-eqb (length l) 35 h) (made .0) in
       record { refusal = sym (pick-true 0 15 can); words = w ∙ ap wordsOf (made .1) ∙ sym (pick-true (wordsOf k) l can) }
+
+-- ---- any two outcomes that meet a promise coincide
+
+pub set-one : {f : Kcp → Kcp} {n : ℕ} {l a a′ : List ℕ} {r r′ : ℕ} → WordsSet f n l r a → WordsSet f n l r′ a′ → (r ≡ r′) × (a ≡ a′)
+set-one t u = (t .refusal ∙ sym (u .refusal), t .words ∙ sym (u .words))
+
+pub made-one : {m : Lent} {k : Kcp} {l a a′ : List ℕ} {r r′ : ℕ} → WordsMade m k l r a → WordsMade m k l r′ a′ → (r ≡ r′) × (a ≡ a′)
+made-one t u = (t .refusal ∙ sym (u .refusal), t .words ∙ sym (u .words))
