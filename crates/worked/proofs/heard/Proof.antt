@@ -21,15 +21,9 @@ same-length-3 c = search needs
 same-length-4 : tie.Need-same-length-4
 same-length-4 c = search needs
 
-same-length-5 : tie.Need-same-length-5
-same-length-5 c = search needs
-
-same-length-6 : tie.Need-same-length-6
-same-length-6 c = search needs
-
 returns : tie.Need-returns
 returns c =
-    let out = c .before .before .before .before .before .before .before .before .before .before .before .before .input .ensures in
+    let out = c .before .before .before .before .before .before .before .before .input .ensures in
     (ap (λ (o : ReadOut). o .answer) (out .is), out .refusal)
 
 pub heard-spec : {M : Type 1} → statement M
@@ -41,6 +35,4 @@ heard-spec =
     same-length-2
     same-length-3
     same-length-4
-    same-length-5
-    same-length-6
     returns)

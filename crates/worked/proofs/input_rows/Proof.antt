@@ -7,7 +7,7 @@ use Rattle.worked.proofs.input_rows.Statement.{statement}
 use Rattle.worked.proofs.input_rows.Tie as tie
 
 slice-aggregate-heard : tie.Need-slice-aggregate-heard
-slice-aggregate-heard c = sym (length-take-le 1500 (c .before .before .before .before .before .before .before .before .before .before .before .before .before .before .before .before .args .datagram .now) (omega arith))
+slice-aggregate-heard c = sym (length-take-le 1500 (c .before .before .before .before .before .before .before .before .before .before .before .before .args .datagram .now) (omega arith))
 
 heard-requires : tie.Need-heard-requires
 heard-requires c κs = search needs
@@ -43,22 +43,16 @@ write-row-requires-2 : tie.Need-write-row-requires-2
 write-row-requires-2 c κs = search needs
 
 same-length : tie.Need-same-length
-same-length c = let l = c .before .before .before .before .before .before .before .before .before .before .before .before .before .before .before in l .heard2 .kept .1 .0 ∙ l .before .before .before .before .before .before .before .before .before .before .before .before .before .before .before .before .before .before .before .before .before .before .before .before .before .heard .kept .1 .0
+same-length c = let l = c .before .before .before .before .before .before .before .before .before .before .before in l .heard2 .kept .1 .0 ∙ l .before .before .before .before .before .before .before .before .before .before .before .before .before .before .before .before .before .before .before .heard .kept .1 .0
 
 same-length-2 : tie.Need-same-length-2
-same-length-2 c = let l = c .before .before .before .before .before .before .before .before .before .before .before .before .before .before .before in l .heard2 .kept .1 .1 .0 ∙ l .before .before .before .before .before .before .before .before .before .before .before .before .before .before .before .before .before .before .before .before .before .before .before .before .before .heard .kept .1 .1 .0
+same-length-2 c = let l = c .before .before .before .before .before .before .before .before .before .before .before in l .heard2 .kept .1 .1 .0 ∙ l .before .before .before .before .before .before .before .before .before .before .before .before .before .before .before .before .before .before .before .heard .kept .1 .1 .0
 
 same-length-3 : tie.Need-same-length-3
-same-length-3 c = let l = c .before .before .before .before .before .before .before .before .before .before .before .before .before .before .before in l .heard2 .kept .1 .1 .1 .0 ∙ l .before .before .before .before .before .before .before .before .before .before .before .before .before .before .before .before .before .before .before .before .before .before .before .before .before .heard .kept .1 .1 .1 .0
+same-length-3 c = let l = c .before .before .before .before .before .before .before .before .before .before .before in l .heard2 .kept .1 .1 .1 .0 ∙ l .before .before .before .before .before .before .before .before .before .before .before .before .before .before .before .before .before .before .before .heard .kept .1 .1 .1 .0
 
 same-length-4 : tie.Need-same-length-4
-same-length-4 c = let l = c .before .before .before .before .before .before .before .before .before .before .before .before .before .before .before in l .heard2 .kept .1 .1 .1 .1 .0 ∙ l .before .before .before .before .before .before .before .before .before .before .before .before .before .before .before .before .before .before .before .before .before .before .before .before .before .heard .kept .1 .1 .1 .1 .0
-
-same-length-5 : tie.Need-same-length-5
-same-length-5 c = let l = c .before .before .before .before .before .before .before .before .before .before .before .before .before .before .before in l .heard2 .kept .1 .1 .1 .1 .1 .0 ∙ l .before .before .before .before .before .before .before .before .before .before .before .before .before .before .before .before .before .before .before .before .before .before .before .before .before .heard .kept .1 .1 .1 .1 .1 .0
-
-same-length-6 : tie.Need-same-length-6
-same-length-6 c = let l = c .before .before .before .before .before .before .before .before .before .before .before .before .before .before .before in l .heard2 .kept .1 .1 .1 .1 .1 .1 .1 .0 ∙ l .before .before .before .before .before .before .before .before .before .before .before .before .before .before .before .before .before .before .before .before .before .before .before .before .before .heard .kept .1 .1 .1 .1 .1 .1 .1 .0
+same-length-4 c = let l = c .before .before .before .before .before .before .before .before .before .before .before in l .heard2 .kept .1 .1 .1 .1 .1 .0 ∙ l .before .before .before .before .before .before .before .before .before .before .before .before .before .before .before .before .before .before .before .heard .kept .1 .1 .1 .1 .1 .0
 
 returns : tie.Need-returns
 returns c = search needs
@@ -83,6 +77,4 @@ input-rows-spec =
     same-length-2
     same-length-3
     same-length-4
-    same-length-5
-    same-length-6
     returns)
