@@ -88,13 +88,7 @@ fn move_buf(block: Kcp, records: &[u32], room: &[u8]) -> Made
     made_by_set(kcp::move_buf(block, records, room))
 }
 
-fn set_wndsize(
-    block: Kcp,
-    sndwnd: u16,
-    rcvwnd: u16,
-    records: &[u32],
-    room: &[u8],
-) -> Made
+fn set_wndsize(block: Kcp, sndwnd: u16, rcvwnd: u16, records: &[u32], room: &[u8]) -> Made
     ensures { λ r. ⌜ r ≡ madeBySet (setWndsizeOf block (lists (now (records .entry)) (now (room .entry))) sndwnd rcvwnd) ⌝ }
 {
     made_by_set(kcp::set_wndsize(block, sndwnd, rcvwnd, records, room))
@@ -273,13 +267,7 @@ fn push_step(
 }
 
 // A recv of the sample, into the first bytes of `buf`. One that asks for more than that has is unknown.
-fn recv_step(
-    block: Kcp,
-    call: Call,
-    records: &[u32],
-    room: &[u8],
-    buf: &mut [u8],
-) -> Made {
+fn recv_step(block: Kcp, call: Call, records: &[u32], room: &[u8], buf: &mut [u8]) -> Made {
     let len = wide(call.first);
     if buf.len() < len {
         return unknown(block);

@@ -163,15 +163,7 @@ fn play(
     waiting: &[u8],
     buf: &mut [u8],
 ) {
-    let made = Kcp::new(
-        1,
-        records,
-        room,
-        snd_records,
-        snd_room,
-        acks,
-        waiting,
-    );
+    let made = Kcp::new(1, records, room, snd_records, snd_room, acks, waiting);
     let Made::Block { block } = made else {
         io::write_all(STDOUT_FILENO, b"no block\n");
         return;

@@ -31,13 +31,7 @@ fn write_row(called: &[u8], number: u32) {
 }
 
 // The number of what set_wndsize answers.
-fn wndsize_number(
-    block: Kcp,
-    sndwnd: u16,
-    rcvwnd: u16,
-    records: &[u32],
-    room: &[u8],
-) -> u32
+fn wndsize_number(block: Kcp, sndwnd: u16, rcvwnd: u16, records: &[u32], room: &[u8]) -> u32
     ensures { λ r. ⌜ r ≡ wndsizeNumber block (lists (now (records .entry)) (now (room .entry))) rcvwnd ⌝ }
 {
     let set = kcp::set_wndsize(block, sndwnd, rcvwnd, records, room);
@@ -217,15 +211,7 @@ fn rows(
     acks: &mut [u32],
     waiting: &[u8],
 ) {
-    let made = Kcp::new(
-        1,
-        records,
-        room,
-        snd_records,
-        snd_room,
-        acks,
-        waiting,
-    );
+    let made = Kcp::new(1, records, room, snd_records, snd_room, acks, waiting);
     let Made::Block { block } = made else {
         io::write_all(STDOUT_FILENO, b"no block\n");
         return;

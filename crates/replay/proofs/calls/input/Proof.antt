@@ -24,7 +24,7 @@ same-length-4 : tie.Need-same-length-4
 same-length-4 c = search needs
 
 returns : tie.Need-returns
-returns c = rw (c .number-of-bytes .ensures) (ap madeByInput (c .before .before .before .before .before .before .before .before .before .before .before .before .before .before .input .ensures .is))
+returns c = rw (c .number-of-bytes .ensures) (ap madeByInput (c .before .before .before .before .before .before .before .before .before .before .input .ensures .is))
 
 pub input-spec : {M : Type 1} → statement M
 input-spec =

@@ -14,7 +14,7 @@ made-by-length-requires c κs = search needs
 
 returns : tie.Need-returns
 returns c =
-    let k = c .before .before .before .before .before .args .block in
+    let k = c .before .before .before .before .args .block in
     c .made-by-length .ensures ∙ ap (λ (a : Length). madeByLength k a 0) (c .before .peeksize .ensures .is)
 
 pub peeksize-spec : {M : Type 1} → statement M

@@ -26,8 +26,8 @@ same-length-5 c = search needs
 
 returns : tie.Need-returns
 returns c =
-    let s = c .before .before .before .before .before .before .before .before .before .before .before .before in
-    rw (s .before .before .before .before .before .before .before .before .before .before .put-segment .ensures) at (s .input .ensures)
+    let s = c .before .before .before .before .before .before .before .before in
+    rw (s .before .before .before .before .before .before .before .before .put-segment .ensures) at (s .input .ensures)
 
 pub push-in-spec : {M : Type 1} → statement M
 push-in-spec =

@@ -22,7 +22,7 @@ same-length c = search needs
 
 returns : tie.Need-returns
 returns c =
-    let s = c .before .before .before .before .before .before .before .before .before in
+    let s = c .before .before .before .before .before .before .before in
     c .made-by-length .ensures ∙ rw (c .before .checksum .ensures, c .before .before .length-of .ensures) (ap madeByRecv (s .recv .ensures .is))
 
 pub recv-spec : {M : Type 1} → statement M
