@@ -9,11 +9,7 @@ ghost use Rattle.host_receive.specs.Words.{Called, WordsPeeked, WordsReceived};
 
 // Moves held segments to the queue. 0, or 15.
 #[no_mangle]
-pub extern "C" fn kcp_move_buf(
-    words: &mut [u32],
-    records: &[u32],
-    room: &[u8],
-) -> u32
+pub extern "C" fn kcp_move_buf(words: &mut [u32], records: &[u32], room: &[u8]) -> u32
     ensures { λ r. ⌜ Called (λ k. moveBufOf k (lists (now (records .entry)) (now (room .entry)))) (now (words .entry)) r (now (words .exit)) ⌝ }
 {
     host_receive::move_buf(words, records, room)
