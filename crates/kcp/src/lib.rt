@@ -36,7 +36,7 @@ pub fn move_buf(block: Kcp, records: &[u32], room: &[u8]) -> Set
     ensures { λ r. ⌜ Promised (moveBufOf block (lists (now (records .entry)) (now (room .entry))))
         (pick (receiveFits block (lists (now (records .entry)) (now (room .entry)))) 0 15) r ⌝ }
 {
-    if !receive::fits(block, records, room) {
+    if !receive::fits(block.own_numbers(), block.receiver, records, room) {
         return bad_pool(block);
     }
     let receiver = receive::move_buf(block.receiver, records);
@@ -57,7 +57,7 @@ fn no_length(why: Refusal) -> Length
 pub fn peeksize(block: Kcp, records: &[u32], room: &[u8]) -> Length
     ensures { λ r. ⌜ Peeked block (lists (now (records .entry)) (now (room .entry))) r ⌝ }
 {
-    if !receive::fits(block, records, room) {
+    if !receive::fits(block.own_numbers(), block.receiver, records, room) {
         return no_length(Refusal::BadPool);
     }
     receive::peeksize(block.receiver, records)
@@ -68,7 +68,7 @@ pub fn recv(block: Kcp, records: &[u32], room: &[u8], buf: &mut [u8]) -> Receive
     ensures { λ r. ⌜ Receives block (lists (now (records .entry)) (now (room .entry))) (now (buf .entry))
         (record { block = r .block; answer = r .answer; buf = now (buf .exit) }) ⌝ }
 {
-    if !receive::fits(block, records, room) {
+    if !receive::fits(block.own_numbers(), block.receiver, records, room) {
         return Received {
             block: block,
             answer: no_length(Refusal::BadPool),
@@ -97,7 +97,7 @@ pub fn set_wndsize(block: Kcp, sndwnd: u16, rcvwnd: u16, records: &[u32], room: 
     ensures { λ r. ⌜ Promised (setWndsizeOf block (lists (now (records .entry)) (now (room .entry))) sndwnd rcvwnd)
         (wndsizeNumber block (lists (now (records .entry)) (now (room .entry))) rcvwnd) r ⌝ }
 {
-    if !receive::fits(block, records, room) {
+    if !receive::fits(block.own_numbers(), block.receiver, records, room) {
         return bad_pool(block);
     }
     receive::set_wndsize(block, records.len(), sndwnd, rcvwnd)

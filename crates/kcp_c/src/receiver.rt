@@ -64,7 +64,8 @@ pub extern "C" fn kcp_receive_test(words: &[u32], records: &[u32], room: &[u8]) 
     if !words::is_block(words) {
         return 15;
     }
-    if receive::fits(words::block(words), records, room) {
+    let block = words::block(words);
+    if receive::fits(block.own_numbers(), block.receiver, records, room) {
         return 0;
     }
     15

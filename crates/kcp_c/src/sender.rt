@@ -30,7 +30,8 @@ pub extern "C" fn kcp_send_test(words: &[u32], records: &[u32], room: &[u8]) -> 
     if !words::is_block(words) {
         return 15;
     }
-    if transmit::fits(words::block(words), records, room) {
+    let block = words::block(words);
+    if transmit::fits(block.own_numbers(), block.sender, records, room) {
         return 0;
     }
     15

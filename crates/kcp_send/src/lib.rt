@@ -18,7 +18,7 @@ pub fn send(block: Kcp, records: &mut [u32], room: &mut [u8], bytes: &[u8]) -> S
     ensures { λ r. ⌜ Sends block (lists (now (records .entry)) (now (room .entry))) (now (bytes .entry))
         (record { block = r .block; answer = r .answer; store = storeOf 8 (lists (now (records .exit)) (now (room .exit))) }) ⌝ }
 {
-    if !transmit::fits(block, records, room) {
+    if !transmit::fits(block.own_numbers(), block.sender, records, room) {
         return Sent {
             block: block,
             answer: Bytes::Refused {

@@ -1,15 +1,19 @@
 -- The tests for 15 are true exactly when their facts hold; then the receive side is good to act on, and what is seen of it is well formed. Assumes nothing.
-use Prim.Native.Nat.{_^_, _<_}
+use Prim.Native.Nat.{ℕ, _^_, _<_}
+use mathlib.Core.Path.{_≡_, sym, ap, _∙_}
+use mathlib.Core.Bool.{Bool, true, false, not, _&&_}
 use native.Mathlib.Omega.{arith}
 use lib.ListN.{length}
+use borrow.Author.Tests.{not-true, not-false}
 use Rattle.ring.specs.Lists.{Lists}
 use Rattle.rcv_ring.specs.Places.{Sound}
 use Rattle.rcv_ring.proofs.Tests.{fit-marked, marked-fit}
 use Rattle.block.specs.declared.receiver.Receiver.{Receiver}
 use Rattle.block.specs.declared.Kcp.{Kcp}
 use Rattle.block.specs.Sizes.{RingSizes}
-use Rattle.block.specs.WellFormed.{ReceiverFits, OwnNumbers}
+use Rattle.block.specs.WellFormed.{ReceiverFits, ownNumbers, OwnNumbers}
 use Rattle.block.proofs.Exact.{Exactly, exactly-both, exactly-as, ring-sizes, own-numbers, receive-numbers}
+use Rattle.block.proofs.Together.{goes, stops}
 use Rattle.receiving.specs.Rules.{WellFormed}
 use Rattle.receive.specs.Memory.{seen}
 use Rattle.receive.specs.Fits.{receiveLent, ReceiveLent, receiveFits, ReceiveFits, Lies, Good}
@@ -79,3 +83,25 @@ module _ {r : Receiver} {l : Lists} (good : Good r l) where
         windowed = f .window .high;
         fits = good .twice;
       }
+
+-- what `fits` answers, where `own` tells whether the block's own numbers are well formed
+module _ (own : Bool) (r : Receiver) (l : Lists) where
+  abbrev Tested : Bool → Type 0
+  Tested t = (t ≡ (own && receiveLent r l)) × (t ≡ true → Good r l)
+
+  pub bad-own : not own ≡ true → Tested false
+  bad-own h = (stops _ (not-true own h), λ e. let z : _≡_ {A = ℕ} 0 1 = cc in absurd (omega arith))
+
+  pub by-lent : (own ≡ true → ReceiverFits r) → not own ≡ false → {t : Bool} → t ≡ receiveLent r l → Tested t
+  by-lent f h e =
+      let o : own ≡ true = not-false own h in
+      (e ∙ goes _ o, λ t. lent-good (f o) (lent-exactly r l .holds (sym e ∙ t)))
+
+-- where that is asked of the block k
+module _ (k : Kcp) {own : Bool} (asked : own ≡ ownNumbers k) where
+  pub own-receiver : own ≡ true → ReceiverFits (k .receiver)
+  own-receiver h = own-numbers k .holds (sym asked ∙ h) .receiver
+
+  pub fits-tested : (l : Lists) {t : Bool} → t ≡ (own && receiveLent (k .receiver) l) → t ≡ receiveFits k l
+  unfolding receiveFits
+  fits-tested l e = e ∙ ap (λ (b : Bool). b && receiveLent (k .receiver) l) asked

@@ -1,7 +1,7 @@
 // The receive side in lent memory: the push part of input, `move_buf`, peeksize and recv, and the window setter. Each requires that the memory
 // is well formed; the public calls test that and then act.
 ghost use mathlib.Core.Path.{_≡_};
-ghost use mathlib.Core.Bool.{true};
+ghost use mathlib.Core.Bool.{true, _&&_};
 ghost use Prim.Native.Nat.{_-_, _<_, _≤_, max};
 ghost use lib.ListN.{length};
 ghost use Rattle.serial.specs.Window.{inWindow};
@@ -12,7 +12,7 @@ ghost use Rattle.rcv_ring.specs.Places.{sizeAt, payloadAt};
 ghost use Rattle.block.specs.WellFormed.{ReceiverFits};
 ghost use Rattle.receiving.specs.Rules.{expects, tooLarge};
 ghost use Rattle.receive.specs.Memory.{queueFrgs, queueSizes, side, moveBufAt, storedIn, movedAt, PushedAs, peekAt, lengthAnswer, freedAt, recvAt, tellBit, withTell, probeAt, sendWindow, receiveWindow, windowsAt, Spans};
-ghost use Rattle.receive.specs.Fits.{Lies, Good, receiveLent, receiveFits};
+ghost use Rattle.receive.specs.Fits.{Lies, Good, receiveLent};
 use block::Kcp;
 use block::acklist::AckList;
 use block::congestion::Congestion;
@@ -386,13 +386,15 @@ pub fn lent_fits(receiver: Receiver, records: &[u32], room: &[u8]) -> bool
     rcv_ring::marks_fit(receiver.ring, records)
 }
 
-// Whether block and receive memory are well formed.
-pub fn fits(block: Kcp, records: &[u32], room: &[u8]) -> bool
-    ensures { λ r. ⌜ r ≡ receiveFits block (lists (now (records .entry)) (now (room .entry))) ⌝ }
-    ensures { λ r. ⌜ (r ≡ true → Good (block .receiver) (lists (now (records .entry)) (now (room .entry)))) ⌝ }
+// Whether block and receive memory are well formed, where `own` tells whether the block's own numbers are. A call is handed the part that it looks at
+// and not the block, which would be laid out in memory for it.
+pub fn fits(own: bool, receiver: Receiver, records: &[u32], room: &[u8]) -> bool
+    requires { ⌜ (own ≡ true → ReceiverFits receiver) ⌝ }
+    ensures { λ r. ⌜ r ≡ (own && receiveLent receiver (lists (now (records .entry)) (now (room .entry)))) ⌝ }
+    ensures { λ r. ⌜ (r ≡ true → Good receiver (lists (now (records .entry)) (now (room .entry)))) ⌝ }
 {
-    if !block.own_numbers() {
+    if !own {
         return false;
     }
-    lent_fits(block.receiver, records, room)
+    lent_fits(receiver, records, room)
 }

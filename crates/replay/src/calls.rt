@@ -319,7 +319,7 @@ pub fn make(
 fn held_in(block: Kcp, records: &[u32], room: &[u8]) -> u32
     ensures { λ r. ⌜ r ≡ heldIn block (lists (now (records .entry)) (now (room .entry))) ⌝ }
 {
-    if !receive::fits(block, records, room) {
+    if !receive::fits(block.own_numbers(), block.receiver, records, room) {
         return UNKNOWN;
     }
     let ring = block.receiver.ring;

@@ -4,7 +4,7 @@ use Prim.Native.Nat.{ℕ, _*_, _/_, _≤_, _<_}
 use native.Mathlib.Omega.{arith}
 use native.Mathlib.Decide.{ℕ-discrete}
 use mathlib.Core.Path.{_≡_, sym, ap, _∙_, subst}
-use mathlib.Core.Bool.{Bool, true, false, not}
+use mathlib.Core.Bool.{Bool, true, false, not, _&&_}
 use mathlib.Core.Logic.{_⊎_, inl, inr}
 use mathlib.Core.List.{List}
 use lib.ListN.{length}
@@ -75,18 +75,18 @@ fits-of k l own sizes o =
       };
     }
 
--- `fits`: the block's own numbers decide, or the test of the memory; and what it says where it is true
-module _ (k : Kcp) (l : Lists) {t : Bool} (e : t ≡ ownNumbers k) where
-  pub no-own : not t ≡ true → false ≡ sendFits k l
-  unfolding sendFits
-  no-own h = stops _ (sym e ∙ not-true t h)
+-- what `fits` answers, where `own` tells whether the block's own numbers are well formed
+module _ (own : Bool) (s : Sender) (l : Lists) where
+  pub bad-own : not own ≡ true → false ≡ (own && sendLent s l)
+  bad-own h = stops _ (not-true own h)
 
-  pub own-goes : not t ≡ false → {r : Bool} → r ≡ sendLent (k .sender) l → r ≡ sendFits k l
-  unfolding sendFits
-  own-goes h d = d ∙ goes _ (sym e ∙ not-false t h)
+  pub by-lent : not own ≡ false → {t : Bool} → t ≡ sendLent s l → t ≡ (own && sendLent s l)
+  by-lent h e = e ∙ goes _ (not-false own h)
 
-pub fits-by : (k : Kcp) (l : Lists) {r : Bool} → r ≡ sendFits k l → (r ≡ sendFits k l) × (r ≡ true → Sound 8 (k .sender .ring) (storeOf 8 l))
-fits-by k l e = (e, λ t. sound-of (exactly k l .holds (sym e ∙ t)))
+-- and where that is asked of the block k
+pub fits-tested : (k : Kcp) {own : Bool} → own ≡ ownNumbers k → (l : Lists) {t : Bool} → t ≡ (own && sendLent (k .sender) l) → t ≡ sendFits k l
+unfolding sendFits
+fits-tested k asked l e = e ∙ ap (λ (b : Bool). b && sendLent (k .sender) l) asked
 
 -- the block's own numbers of a sound ring fit
 pub sender-fits-of : (s : Sender) (m : Store) → Sound 8 (s .ring) m → length (m .marks) ≤ 1024 → SenderFits s

@@ -1,15 +1,14 @@
 // The sending side in lent memory: what input does with una and with acks, and the test of the send memory.
 ghost use mathlib.Core.Path.{_≡_};
-ghost use mathlib.Core.Bool.{true};
+ghost use mathlib.Core.Bool.{_&&_};
 ghost use mathlib.Core.List.{List};
 ghost use Prim.Native.Nat.{ℕ, _/_, _≤_, _<_};
 ghost use lib.ListN.{length};
 ghost use Rattle.ring.specs.Lists.{lists};
-ghost use Rattle.snd_ring.specs.Store.{storeOf, Sound};
+ghost use Rattle.snd_ring.specs.Store.{storeOf};
 ghost use Rattle.sending.specs.Rules.{acknowledgedBy};
 ghost use Rattle.transmit.specs.Memory.{flyingNumbers, side, shrunkAt, unaAt, ackAt, raisedOne, raisedFrom, fastackAt, Ends};
-ghost use Rattle.transmit.specs.Fits.{sendLent, sendFits, Lies};
-use block::Kcp;
+ghost use Rattle.transmit.specs.Fits.{sendLent, Lies};
 use block::sender::Sender;
 use block::sizes::send_sizes;
 use sending::Flight;
@@ -186,13 +185,13 @@ pub fn lent_fits(sender: Sender, records: &[u32], room: &[u8]) -> bool
     snd_ring::marks_fit(sender.ring, &records[0..slots])
 }
 
-// Whether block and send memory are well formed.
-pub fn fits(block: Kcp, records: &[u32], room: &[u8]) -> bool
-    ensures { λ r. ⌜ r ≡ sendFits block (lists (now (records .entry)) (now (room .entry))) ⌝ }
-    ensures { λ r. ⌜ (r ≡ true → Sound 8 (block .sender .ring) (storeOf 8 (lists (now (records .entry)) (now (room .entry))))) ⌝ }
+// Whether block and send memory are well formed, where `own` tells whether the block's own numbers are. A call is handed the part that it looks at
+// and not the block, which would be laid out in memory for it.
+pub fn fits(own: bool, sender: Sender, records: &[u32], room: &[u8]) -> bool
+    ensures { λ r. ⌜ r ≡ (own && sendLent sender (lists (now (records .entry)) (now (room .entry)))) ⌝ }
 {
-    if !block.own_numbers() {
+    if !own {
         return false;
     }
-    lent_fits(block.sender, records, room)
+    lent_fits(sender, records, room)
 }

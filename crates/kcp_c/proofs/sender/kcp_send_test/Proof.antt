@@ -3,6 +3,7 @@ use mathlib.Core.Path.{sym, _∙_}
 use borrow.Author.Needs.{needs}
 use Rattle.serial.specs.Branch.{pick-true, pick-false}
 use Rattle.ring.specs.Lists.{lists}
+use Rattle.transmit.proofs.Exact.{fits-tested}
 use Rattle.transmit.specs.Fits.{sendFits}
 use Rattle.host_receive.proofs.Laws.{held-length}
 use Rattle.kcp_c.proofs.Laws.{tested-none, tested-by}
@@ -20,18 +21,21 @@ returns c =
 block-requires : tie.Need-block-requires
 block-requires c κs = held-length _ (c .before .is-block .ensures) (c .if1 .left)
 
+own-numbers-requires : tie.Need-own-numbers-requires
+own-numbers-requires c κs = search needs
+
 fits-requires : tie.Need-fits-requires
 fits-requires c κs = search needs
 
 returns-2 : tie.Need-returns-2
 returns-2 c =
-    let a = c .before .before .before .before .before .before .before .before .args in
-    sym (pick-true 0 15 (c .if2 .taken)) ∙ tested-by (λ k. sendFits k (lists (a .records .now) (a .room .now))) _ (c .before .before .before .before .is-block .ensures) (c .before .before .before .if1 .left) (c .before .before .block .ensures) (c .before .fits2 .ensures .0)
+    let a = c .before .before .before .before .before .before .before .before .before .args in
+    sym (pick-true 0 15 (c .if2 .taken)) ∙ tested-by (λ k. sendFits k (lists (a .records .now) (a .room .now))) _ (c .before .before .before .before .before .is-block .ensures) (c .before .before .before .before .if1 .left) (c .before .before .before .block .ensures) (fits-tested _ (c .before .before .own-numbers .ensures) (lists (a .records .now) (a .room .now)) (c .before .fits2 .ensures))
 
 returns-3 : tie.Need-returns-3
 returns-3 c =
-    let a = c .before .before .before .before .before .before .before .before .args in
-    sym (pick-false 0 15 (c .if2 .left)) ∙ tested-by (λ k. sendFits k (lists (a .records .now) (a .room .now))) _ (c .before .before .before .before .is-block .ensures) (c .before .before .before .if1 .left) (c .before .before .block .ensures) (c .before .fits2 .ensures .0)
+    let a = c .before .before .before .before .before .before .before .before .before .args in
+    sym (pick-false 0 15 (c .if2 .left)) ∙ tested-by (λ k. sendFits k (lists (a .records .now) (a .room .now))) _ (c .before .before .before .before .before .is-block .ensures) (c .before .before .before .before .if1 .left) (c .before .before .before .block .ensures) (fits-tested _ (c .before .before .own-numbers .ensures) (lists (a .records .now) (a .room .now)) (c .before .fits2 .ensures))
 
 pub kcp-send-test-spec : {M : Type 1} → statement M
-kcp-send-test-spec = tie.close (tie.spec is-block-requires returns block-requires fits-requires returns-2 returns-3)
+kcp-send-test-spec = tie.close (tie.spec is-block-requires returns block-requires own-numbers-requires fits-requires returns-2 returns-3)

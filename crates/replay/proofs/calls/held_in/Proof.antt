@@ -10,6 +10,7 @@ use Rattle.ring.specs.Lists.{Lists, lists}
 use Rattle.ring.specs.Counting.{count}
 use Rattle.block.specs.declared.Kcp.{Kcp}
 use Rattle.receive.specs.Fits.{receiveFits}
+use Rattle.receive.proofs.Exact.{own-receiver, fits-tested}
 use Rattle.replay.specs.Calls.{heldIn}
 use Rattle.replay.proofs.calls.held_in.Statement.{statement}
 use Rattle.replay.proofs.calls.held_in.Tie as tie
@@ -24,13 +25,17 @@ counted : (k : Kcp) (l : Lists) {t : Bool} → t ≡ receiveFits k l → not t �
 unfolding heldIn
 counted k l {t} tested holds n e = e ∙ sym (pick-true _ _ (sym tested ∙ not-false t holds))
 
+own-numbers-requires : tie.Need-own-numbers-requires
+own-numbers-requires c κs = search needs
+
 fits-requires : tie.Need-fits-requires
-fits-requires c κs = search needs
+fits-requires c κs = own-receiver _ (c .own-numbers .ensures)
 
 returns : tie.Need-returns
 returns c =
-    let a = c .before .before .before .before .args in
-    unfit (a .block) (lists (a .records .now) (a .room .now)) (c .before .fits2 .ensures .0) (c .if1 .taken)
+    let a = c .before .before .before .before .before .args in
+    let l = lists (a .records .now) (a .room .now) in
+    unfit (a .block) l (fits-tested _ (c .before .before .own-numbers .ensures) l (c .before .fits2 .ensures .0)) (c .if1 .taken)
 
 cast-tally : tie.Need-cast-tally
 cast-tally c = search needs
@@ -50,10 +55,11 @@ tally-requires c κs =
 returns-2 : tie.Need-returns-2
 returns-2 c =
     let t = c .before .before .before .before .before in
-    let a = t .before .before .before .before .args in
-    counted (a .block) (lists (a .records .now) (a .room .now)) (t .before .fits2 .ensures .0) (t .if1 .left) _ (c .tally .ensures .0)
+    let a = t .before .before .before .before .before .args in
+    let l = lists (a .records .now) (a .room .now) in
+    counted (a .block) l (fits-tested _ (t .before .before .own-numbers .ensures) l (t .before .fits2 .ensures .0)) (t .if1 .left) _ (c .tally .ensures .0)
 
 pub held-in-spec : {M : Type 1} → statement M
 held-in-spec =
     tie.close
-    (tie.spec fits-requires returns cast-tally cast-tally-2 cast-tally-3 tally-requires returns-2)
+    (tie.spec own-numbers-requires fits-requires returns cast-tally cast-tally-2 cast-tally-3 tally-requires returns-2)
