@@ -36,7 +36,7 @@ use Rattle.block.specs.Fresh.{freshSettings, freshProbe, fresh}
 use Rattle.receiving.specs.Rules.{skipped, listed, reached}
 use Rattle.receive.specs.Memory.{readyAt, moveBufAt, storedIn, movedAt, pushAt, acksAt, listAt, skipsAt}
 use Rattle.sending.specs.Rules.{acknowledgedBy, unaOf, inRange, seek, meets, found, later, gains, fastackOf, counts, opened, cutTo, grown}
-use Rattle.transmit.specs.Memory.{flyingNumbers, shrunkAt, unaAt, sought, removedAt, shrunkSide, ackAt, raisedOne, raisedFrom, fastackAt}
+use Rattle.transmit.specs.Memory.{flyingNumbers, shrunkAt, unaAt, endsAt, sought, removedAt, shrunkSide, ackAt, raisedOne, raisedFrom, fastackAt}
 use Rattle.input.specs.declared.Verdict.the-variants.{Goes, Refused}
 use Rattle.input.specs.Segment.{adopts, differs, verdictOf, Met, adopted, begun, pushedAt, ackedAt, effectAt, through, stopped, actAt, segmentAt}
 use Rattle.input.specs.Datagram.{onward, walkFrom, walkOf, endBy, endFrom, endOf, grownBy, finished, metOf, readAt}
@@ -148,7 +148,7 @@ acknowledged : readAt (block 0) (lists rcvWords []) (8 ∷ 8 ∷ 8 ∷ 8 ∷ [])
       acks = 8 ∷ 8 ∷ 8 ∷ 8 ∷ [];
       snd = three (1 ∷ 1 ∷ 0 ∷ []) 1;
     }
-unfolding block congestion awaits sender acklist rcvWords row three flying said readAt walkOf walkFrom onward finished segmentAt actAt effectAt begun adopted verdictOf differs adopts commandOf pick headerAt headerBytes unaAt shrunkAt flyingNumbers flightOf memory.seen along cell part dropped advanced settled passed atLeast acknowledgedBy unaOf place ackedAt acked measured timed signed32 ackAt shrunkSide removedAt found inRange meets seek sought takenOut gapped later fastackAt counts raisedFrom raisedOne fastackOf gains put grownBy grown opened cutTo
+unfolding block congestion awaits sender acklist rcvWords row three flying said readAt walkOf walkFrom onward finished segmentAt actAt effectAt begun adopted verdictOf differs adopts commandOf pick headerAt headerBytes unaAt shrunkAt flyingNumbers flightOf memory.seen along cell part dropped advanced settled passed atLeast acknowledgedBy unaOf place ackedAt acked measured timed signed32 ackAt shrunkSide removedAt found inRange meets seek sought endsAt takenOut gapped later fastackAt counts raisedFrom raisedOne fastackOf gains put grownBy grown opened cutTo
 acknowledged = refl
 
 -- the ack list is full: the push is skipped, though una 11 is obeyed; the cmd 99 behind it is refused, so that neither fastack nor growth comes

@@ -28,7 +28,7 @@ use Rattle.snd_ring.proofs.Views.{cell-gap, cell-live}
 use Rattle.block.specs.declared.sender.Sender.{Sender}
 use Rattle.sending.specs.Rules.{Segment, numbers, acknowledgedBy, unaOf, stops, seek, meets}
 use Rattle.transmit.specs.declared.Sought.{Sought}
-use Rattle.transmit.specs.Memory.{sn, segmentOf, seen, flyingNumbers, numberIn, sought, Ends}
+use Rattle.transmit.specs.Memory.{sn, segmentOf, seen, flyingNumbers, numberIn, endsAt, endsIn, sought, Ends}
 
 -- ---- those at the n indices from i on
 
@@ -190,6 +190,13 @@ pub meets-none : (x : ℕ) → meets x [] ≡ false
 unfolding meets
 meets-none x = rw (le-ltb (seek x []) 0 (omega arith))
 
+pub by-eq : {A : Type 0} (a b : ℕ) → (a ≡ b → A) → ((a ≡ b → ⊥) → A) → A
+by-eq {A} a b f g = go (ℕ-discrete a b)
+  where
+    go : Dec (a ≡ b) → A
+    go (yes e) = f e
+    go (no d) = g d
+
 -- ---- the search over the indices
 
 module _ (x : ℕ) (r : SndRing) (m : Store) (i : ℕ) where
@@ -203,23 +210,30 @@ module _ (x : ℕ) (r : SndRing) (m : Store) (i : ℕ) where
   unfolding sought
   sought-none = refl
 
-  sought-gap : (n : ℕ) → mark ≡ 0 → sought x r m i (suc n) ≡ sought x r m (suc i) n
+  sought-on : (n : ℕ) → endsIn x r m i ≡ false → sought x r m i (suc n) ≡ sought x r m (suc i) n
   unfolding sought
-  sought-gap n z = rw (eq-eqb mark 0 z)
+  sought-on n e = rw e
 
-  module _ (live : mark ≡ 0 → ⊥) (n : ℕ) where
-    sought-here : number ≡ x → sought x r m i (suc n) ≡ i
-    unfolding sought
-    sought-here e = rw (ne-eqb mark 0 live, eq-eqb number x e)
+  sought-here : (n : ℕ) → endsIn x r m i ≡ true → sought x r m i (suc n) ≡ i
+  unfolding sought
+  sought-here n e = rw e
 
-    module _ (d : number ≡ x → ⊥) where
-      sought-stop : stops x number ≡ true → sought x r m i (suc n) ≡ i
-      unfolding sought
-      sought-stop s = rw (ne-eqb mark 0 live, ne-eqb number x d, s)
+  -- a gap does not end it; a segment does by its number, or by one where it stops
+  pub gap-on : mark ≡ 0 → endsIn x r m i ≡ false
+  unfolding endsAt
+  gap-on z = rw (eq-eqb mark 0 z)
 
-      sought-on : stops x number ≡ false → sought x r m i (suc n) ≡ sought x r m (suc i) n
-      unfolding sought
-      sought-on s = rw (ne-eqb mark 0 live, ne-eqb number x d, s)
+  module _ (live : mark ≡ 0 → ⊥) where
+    pub here-ends : number ≡ x → endsIn x r m i ≡ true
+    unfolding endsAt
+    here-ends e = rw (ne-eqb mark 0 live, eq-eqb number x e)
+
+    pub other-ends : (number ≡ x → ⊥) → endsIn x r m i ≡ stops x number
+    unfolding endsAt
+    other-ends d = rw (ne-eqb mark 0 live, ne-eqb number x d)
+
+  pub ends-live : endsIn x r m i ≡ true → mark ≡ 0 → ⊥
+  ends-live e z = let f = sym e ∙ gap-on z in let y : _≡_ {A = ℕ} 0 1 = cc in absurd (omega arith)
 
 -- from index i on it ends where the whole of it does, and meets what the whole of it meets
 pub record Onward (x : ℕ) (r : SndRing) (m : Store) (i : ℕ) : Type 0 where
@@ -243,24 +257,33 @@ module _ (x : ℕ) (r : SndRing) (m : Store) where
     ends-none h = let e : r .reach - i ≡ 0 = omega arith in ends-at false (rw e (sought-none x r m i)) (rw (left-none r m i h) (meets-none x))
 
     module _ (h : i < r .reach) where
-      pub onward-gap : markAt (m .marks) (r .start) i ≡ 0 → Onward x r m (i + 1)
-      onward-gap z = goes-on (rw (add-one, less r m i h) (sought-gap x r m i (r .reach - suc i) z)) (ap (meets x) (left-gap r m i h z))
+      pub onward-on : endsIn x r m i ≡ false → Onward x r m (i + 1)
+      onward-on e =
+          goes-on (rw (add-one, less r m i h) (sought-on x r m i (r .reach - suc i) e))
+          (by-live (markAt (m .marks) (r .start) i)
+          (λ z _. ap (meets x) (left-gap r m i h z))
+          (λ z _.
+          by-eq (numberIn r m i sn) x
+          (λ f. let g = sym e ∙ here-ends x r m i z f in let y : _≡_ {A = ℕ} 0 1 = cc in absurd (omega arith))
+          (λ d. rw (left-live r m i h z) (meets-on x _ _ d (sym (other-ends x r m i z d) ∙ e)))))
 
-      module _ (live : markAt (m .marks) (r .start) i ≡ 0 → ⊥) where
+      module _ (e : endsIn x r m i ≡ true) where
         pub ends-here : numberIn r m i sn ≡ x → Ends x r m (record { at = i; met = true })
-        ends-here e = ends-at true (rw (less r m i h) (sought-here x r m i live (r .reach - suc i) e)) (rw (left-live r m i h live) (meets-here x _ _ e))
+        ends-here f = ends-at true (rw (less r m i h) (sought-here x r m i (r .reach - suc i) e)) (rw (left-live r m i h (ends-live x r m i e)) (meets-here x _ _ f))
 
-        module _ (d : numberIn r m i sn ≡ x → ⊥) where
-          pub ends-stop : stops x (numberIn r m i sn) ≡ true → Ends x r m (record { at = i; met = false })
-          ends-stop s = ends-at false (rw (less r m i h) (sought-stop x r m i live (r .reach - suc i) d s)) (rw (left-live r m i h live) (meets-stop x _ _ d s))
+        pub ends-stop : (numberIn r m i sn ≡ x → ⊥) → Ends x r m (record { at = i; met = false })
+        ends-stop d =
+            let live = ends-live x r m i e in
+            ends-at false (rw (less r m i h) (sought-here x r m i (r .reach - suc i) e)) (rw (left-live r m i h live) (meets-stop x _ _ d (sym (other-ends x r m i live d) ∙ e)))
 
-          pub onward-live : stops x (numberIn r m i sn) ≡ false → Onward x r m (i + 1)
-          onward-live s =
-              goes-on (rw (add-one, less r m i h) (sought-on x r m i live (r .reach - suc i) d s)) (rw (left-live r m i h live) (meets-on x _ _ d s))
+  -- it passed k indices
+  pub onward-to : (k : ℕ) → k ≤ r .reach → ((j : ℕ) → j < k → endsIn x r m j ≡ false) → Onward x r m k
+  onward-to zero h f = onward-all
+  onward-to (suc k) h f = rw (← add-one) (onward-on k (onward-to k (omega arith) (λ j l. f j (omega arith))) (omega arith) (f k (omega arith)))
 
 -- the room is not looked at
 sought-room : (x : ℕ) (r : SndRing) (k l a b : List ℕ) (i n : ℕ) → sought x r (store k l a) i n ≡ sought x r (store k l b) i n
-unfolding sought
+unfolding sought endsAt
 sought-room x r k l a b i zero = refl
 sought-room x r k l a b i (suc n) = rw (sought-room x r k l a b (suc i) n)
 
@@ -291,13 +314,6 @@ count-next l s i j h =
     let f : i + 1 ≡ suc i = omega arith in
     ap (count 1 l s i) e ∙ count-add 1 l s i 1 (j - suc i) ∙ rw (f, count-single 1 l s i)
 
-by-eq : {A : Type 0} (a b : ℕ) → (a ≡ b → A) → ((a ≡ b → ⊥) → A) → A
-by-eq {A} a b f g = go (ℕ-discrete a b)
-  where
-    go : Dec (a ≡ b) → A
-    go (yes e) = f e
-    go (no d) = g d
-
 module _ (x : ℕ) (r : SndRing) (m : Store) where
   -- the search goes on
   stands-on : (i n : ℕ) → sought x r m i (suc n) ≡ sought x r m (suc i) n
@@ -312,7 +328,7 @@ module _ (x : ℕ) (r : SndRing) (m : Store) where
   stands-here : (i n : ℕ) → (markAt (m .marks) (r .start) i ≡ 0 → ⊥) → numberIn r m i sn ≡ x → Stands x r m i (suc n) (sought x r m i (suc n))
   stands-here i n live e =
       let z : i - i ≡ 0 = omega arith in
-      rw (sought-here x r m i live n e)
+      rw (sought-here x r m i n (here-ends x r m i live e))
       (record {
         low = omega arith;
         high = omega arith;
@@ -324,7 +340,7 @@ module _ (x : ℕ) (r : SndRing) (m : Store) where
   stands-from i zero h = let e = rw (none m (r .start) i) at h in let f = meets-none x in let z : _≡_ {A = ℕ} 0 1 = cc in absurd (omega arith)
   stands-from i (suc n) h =
       by-live (markAt (m .marks) (r .start) i)
-      (λ z e. stands-on i n (sought-gap x r m i n z) (rw (e, at-gap m (r .start) i n z) (omega arith)) (stands-from (suc i) n (rw (at-gap m (r .start) i n z) at h)))
+      (λ z e. stands-on i n (sought-on x r m i n (gap-on x r m i z)) (rw (e, at-gap m (r .start) i n z) (omega arith)) (stands-from (suc i) n (rw (at-gap m (r .start) i n z) at h)))
       (λ z e.
       by-eq (numberIn r m i sn) x
       (stands-here i n z)
@@ -333,7 +349,7 @@ module _ (x : ℕ) (r : SndRing) (m : Store) where
       (λ s. let b = rw (at-live m (r .start) i n z) at h in let f = sym b ∙ meets-stop x _ _ d (lt-ltb _ _ s) in let y : _≡_ {A = ℕ} 0 1 = cc in absurd (omega arith))
       (λ s.
       let t = le-ltb _ _ s in
-      stands-on i n (sought-on x r m i z n d t) (rw (e, at-live m (r .start) i n z, seek-on x _ _ d t) (omega arith))
+      stands-on i n (sought-on x r m i n (other-ends x r m i z d ∙ t)) (rw (e, at-live m (r .start) i n z, seek-on x _ _ d t) (omega arith))
       (stands-from (suc i) n (sym (meets-on x _ _ d t) ∙ rw (at-live m (r .start) i n z) at h)))))
 
   pub sought-is : meets x (flyingNumbers r m) ≡ true → Met x r m (sought x r m 0 (r .reach))

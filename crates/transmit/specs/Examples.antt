@@ -14,7 +14,7 @@ use Rattle.snd_ring.specs.Store as memory
 use Rattle.snd_ring.specs.Steps.{ring, settled, advanced, dropped, gapped, takenOut}
 use Rattle.block.specs.declared.sender.Sender.{Sender}
 use Rattle.sending.specs.Rules.{acknowledgedBy, unaOf, inRange, seek, meets, found, gains, fastackOf, counts}
-use Rattle.transmit.specs.Memory.{flyingNumbers, side, shrunkAt, unaAt, sought, removedAt, shrunkSide, ackAt, raisedOne, raisedFrom, fastackAt}
+use Rattle.transmit.specs.Memory.{flyingNumbers, side, shrunkAt, unaAt, endsAt, sought, removedAt, shrunkSide, ackAt, raisedOne, raisedFrom, fastackAt}
 
 -- a row by its number and its fastack, sent at 100
 row : ℕ → ℕ → List ℕ
@@ -43,21 +43,21 @@ all = refl
 
 -- an ack of 11, in the middle, leaves a gap
 middle : ackAt 11 (sender 10 (ring 3 4 3 0)) (four flying 0) ≡ side (sender 10 (ring 3 4 2 0)) (four (0 ∷ 0 ∷ 1 ∷ 1 ∷ []) 0)
-unfolding ackAt shrunkSide pick removedAt shrunkAt found inRange meets seek sought flyingNumbers unaOf takenOut gapped dropped advanced settled passed atLeast flightOf memory.seen along cell place part sender four flying row
+unfolding ackAt shrunkSide pick removedAt shrunkAt found inRange meets seek sought endsAt flyingNumbers unaOf takenOut gapped dropped advanced settled passed atLeast flightOf memory.seen along cell place part sender four flying row
 middle = refl
 
 -- one of 10, the front, moves the start
 front : ackAt 10 (sender 10 (ring 3 4 3 0)) (four flying 0) ≡ side (sender 11 (ring 0 3 2 0)) (four (1 ∷ 0 ∷ 1 ∷ 0 ∷ []) 0)
-unfolding ackAt shrunkSide pick removedAt shrunkAt found inRange meets seek sought flyingNumbers unaOf takenOut gapped dropped advanced settled passed atLeast flightOf memory.seen along cell place part sender four flying row
+unfolding ackAt shrunkSide pick removedAt shrunkAt found inRange meets seek sought endsAt flyingNumbers unaOf takenOut gapped dropped advanced settled passed atLeast flightOf memory.seen along cell place part sender four flying row
 front = refl
 
 -- the search for 12 passes the gap, though 12 stands in its row, and stops at 13, the first greater number: nothing is removed
 stop : sought 12 (ring 3 4 3 0) (four flying 0) 0 4 ≡ 3
-unfolding sought place four flying row
+unfolding sought endsAt place four flying row
 stop = refl
 
 none : ackAt 12 (sender 10 (ring 3 4 3 0)) (four flying 0) ≡ side (sender 10 (ring 3 4 3 0)) (four flying 0)
-unfolding ackAt shrunkSide pick removedAt shrunkAt found inRange meets seek sought flyingNumbers unaOf takenOut gapped dropped advanced settled passed atLeast flightOf memory.seen along cell place part sender four flying row
+unfolding ackAt shrunkSide pick removedAt shrunkAt found inRange meets seek sought endsAt flyingNumbers unaOf takenOut gapped dropped advanced settled passed atLeast flightOf memory.seen along cell place part sender four flying row
 none = refl
 
 -- a fastack for 13 raises 10 and 11, and passes the gap

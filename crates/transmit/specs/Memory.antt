@@ -1,9 +1,9 @@
 -- What una, acks and fastack do to the block's numbers and to the lent memory, every number and byte: the memory functions of `parse_una`,
 -- `parse_ack` and `parse_fastack`. The decisions are those of the rules (sending/specs/Rules), asked of the numbers in the ring.
 -- A row has eight numbers: conv, frg, sn, ts, resendts, rto, fastack, xmit. Assumes nothing.
-use Prim.Native.Nat.{ℕ, zero, suc}
+use Prim.Native.Nat.{ℕ, zero, suc, _≤_, _<_}
 use mathlib.Core.Path.{_≡_}
-use mathlib.Core.Bool.{cond, _||_}
+use mathlib.Core.Bool.{Bool, true, false, not, cond, _&&_, _||_}
 use mathlib.Core.List.{List, map}
 use lib.ListN.{length, getD}
 use lib.Dec.{eqb}
@@ -93,12 +93,25 @@ unaAt una s m = shrunkAt (withSndRing s (dropped (s .ring) (m .marks) (acknowled
 
 -- ---- `parse_ack` and `shrink_buf`
 
+-- whether the search for x ends at place q: a segment stands there with that number, or with one at which it stops
+unfoldable pub endsAt : ℕ → Store → ℕ → Bool
+endsAt x m q = not (eqb (getD (m .marks) q 0) 0) && (eqb (numberAt 8 (m .rows) q sn) x || stops x (numberAt 8 (m .rows) q sn))
+
+-- the same of index i
+abbrev pub endsIn : ℕ → SndRing → Store → ℕ → Bool
+endsIn x r m i = endsAt x m (place (length (m .marks)) (r .start) i)
+
 -- the search goes over the n indices from i on, gaps passed over: the index where it ends
 unfoldable pub sought : ℕ → SndRing → Store → ℕ → ℕ → ℕ
 sought x r m i zero = i
-sought x r m i (suc n) =
-    let more = sought x r m (suc i) n in
-    cond (eqb (markAt (m .marks) (r .start) i) 0) more (cond (eqb (numberIn r m i sn) x || stops x (numberIn r m i sn)) i more)
+sought x r m i (suc n) = cond (endsIn x r m i) i (sought x r m (suc i) n)
+
+-- k is the first, of those from `from` on and before `to`, that ends a search, or `to`
+pub record First (ends : ℕ → Bool) (from to k : ℕ) : Type 0 where
+  pub low : from ≤ k
+  pub high : k ≤ to
+  pub passed : (q : ℕ) → from ≤ q → q < k → ends q ≡ false
+  pub ended : k < to → ends k ≡ true
 
 -- what the search answers: its end, and whether the number stands there
 pub record Ends (x : ℕ) (r : SndRing) (m : Store) (o : Sought) : Type 0 where

@@ -1,13 +1,14 @@
 // The sending side in lent memory: what input does with una and with acks, and the test of the send memory.
 ghost use mathlib.Core.Path.{_≡_};
-ghost use mathlib.Core.Bool.{_&&_};
-ghost use mathlib.Core.List.{List};
+ghost use mathlib.Core.Bool.{_&&_, _||_};
+ghost use mathlib.Core.List.{List, []};
 ghost use Prim.Native.Nat.{ℕ, _/_, _≤_, _<_};
 ghost use lib.ListN.{length};
+ghost use lib.Dec.{eqb};
 ghost use Rattle.ring.specs.Lists.{lists};
 ghost use Rattle.snd_ring.specs.Store.{storeOf};
-ghost use Rattle.sending.specs.Rules.{acknowledgedBy};
-ghost use Rattle.transmit.specs.Memory.{flyingNumbers, side, shrunkAt, unaAt, ackAt, raisedOne, raisedFrom, fastackAt, Ends};
+ghost use Rattle.sending.specs.Rules.{acknowledgedBy, stops};
+ghost use Rattle.transmit.specs.Memory.{flyingNumbers, side, shrunkAt, unaAt, ackAt, raisedOne, raisedFrom, fastackAt, endsAt, endsIn, First, Ends};
 ghost use Rattle.transmit.specs.Fits.{sendLent, Lies};
 use block::sender::Sender;
 use block::sizes::send_sizes;
@@ -77,6 +78,58 @@ pub struct Sought {
     pub met: bool,
 }
 
+// Whether the search for sn ends at a segment numbered n: that is the one, or the search stops there.
+fn ends(sn: u32, n: u32) -> bool
+    ensures { λ r. ⌜ r ≡ (eqb n sn || stops sn n) ⌝ }
+{
+    if n == sn {
+        return true;
+    }
+    sending::stops(sn, n)
+}
+
+// The first of the places from `from` up to `to` where the search for sn ends, or `to`. The number is looked at before the mark, since few of the
+// numbers end it.
+fn seek_run(records: &[u32], slots: usize, from: usize, to: usize, sn: u32) -> usize
+    requires { ⌜ slots ≡ length (now records) / 9 ⌝ }
+    requires { ⌜ slots ≤ 65535 ⌝ }
+    requires { ⌜ from ≤ to ⌝ }
+    requires { ⌜ to ≤ slots ⌝ }
+    ensures { λ r. ⌜ First (endsAt sn (storeOf 8 (lists (now (records .entry)) []))) from to r ⌝ }
+{
+    let mut q = from;
+    while q < to {
+        if ends(sn, snd_ring::number_at(records, slots, q, SN)) {
+            if records[q] != 0 {
+                return q;
+            }
+        }
+        q += 1;
+    }
+    q
+}
+
+// The index in flight where the search for sn ends, or the reach. The places in flight are one run, or two round the ring's end.
+fn seek_index(ring: SndRing, records: &[u32], slots: usize, sn: u32) -> usize
+    requires { ⌜ slots ≡ length (now records) / 9 ⌝ }
+    requires { ⌜ slots ≤ 65535 ⌝ }
+    requires { ⌜ ring .start < slots ⌝ }
+    requires { ⌜ ring .reach ≤ slots ⌝ }
+    ensures { λ r. ⌜ First (endsIn sn ring (storeOf 8 (lists (now (records .entry)) []))) 0 (ring .reach) r ⌝ }
+{
+    let start = ring.start as usize;
+    let reach = ring.reach as usize;
+    let left = slots - start;
+    if reach <= left {
+        return seek_run(records, slots, start, start + reach, sn) - start;
+    }
+    let q = seek_run(records, slots, start, slots, sn);
+    if q < slots {
+        return q - start;
+    }
+    left + seek_run(records, slots, 0, reach - left, sn)
+}
+
 // Searches for a number in flight, from the front on, gaps passed over.
 fn seek(ring: SndRing, records: &[u32], sn: u32) -> Sought
     requires { ⌜ length (now records) / 9 ≤ 65535 ⌝ }
@@ -85,22 +138,15 @@ fn seek(ring: SndRing, records: &[u32], sn: u32) -> Sought
     ensures { λ r. ⌜ ((room : List ℕ) → Ends sn ring (storeOf 8 (lists (now (records .entry)) room)) r) ⌝ }
 {
     let slots = snd_ring::slots_in(records.len());
-    let reach = ring.reach as usize;
-    let mut i = 0;
-    while i < reach {
-        let slot = ring::place_of(slots, ring.start as usize, i);
-        if records[slot] != 0 {
-            let n = snd_ring::number_at(records, slots, slot, SN);
-            if n == sn {
-                return Sought { at: i, met: true };
-            }
-            if sending::stops(sn, n) {
-                return Sought { at: i, met: false };
-            }
-        }
-        i += 1;
+    let at = seek_index(ring, records, slots, sn);
+    if (ring.reach as usize) <= at {
+        return Sought { at, met: false };
     }
-    Sought { at: i, met: false }
+    let q = ring::place_of(slots, ring.start as usize, at);
+    if snd_ring::number_at(records, slots, q, SN) == sn {
+        return Sought { at, met: true };
+    }
+    Sought { at, met: false }
 }
 
 // Removes the segment that an ack names, if its number is in flight and the search finds it.
