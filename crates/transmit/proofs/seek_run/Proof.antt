@@ -61,10 +61,10 @@ loop-again c =
       omega arith,
       omega arith,
       passed-more (endsAt (s .args .sn) (storeOf 8 (lists a []))) (s .args .from) (l .q) (l .inv .2)
-      (⊎-elim
-      (λ w. on-gap (s .args .sn) a (l .q) (s .pre .0) (omega arith) (w .2 .left))
-      (λ w. on-by (s .args .sn) a (l .q) (s .pre .0) (omega arith) (d .before .number-at .ensures) (d .ends .ensures) (w .left))
-      (c .if1 .came)),
+          (⊎-elim
+          (λ w. on-gap (s .args .sn) a (l .q) (s .pre .0) (omega arith) (w .2 .left))
+          (λ w. on-by (s .args .sn) a (l .q) (s .pre .0) (omega arith) (d .before .number-at .ensures) (d .ends .ensures) (w .left))
+          (c .if1 .came)),
     )
 
 returns-2 : tie.Need-returns-2 Inv-loop μ-loop
