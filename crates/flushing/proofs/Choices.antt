@@ -1,6 +1,6 @@
 -- The decisions of the rules, by the tests that the code makes. Assumes nothing.
 use Prim.Native.Nat.{ℕ, _≤_, _<_}
-use mathlib.Core.Path.{_≡_, refl, _∙_}
+use mathlib.Core.Path.{_≡_, _∙_}
 use mathlib.Core.Bool.{Bool, true, false}
 use mathlib.Core.Logic.{⊎-elim}
 use native.Mathlib.Omega.{arith}
@@ -16,12 +16,10 @@ use Rattle.flushing.specs.declared.due.Record.{Record}
 use Rattle.flushing.specs.declared.due.Pace.{Pace}
 use Rattle.flushing.specs.declared.due.Due.{Due}
 use Rattle.flushing.specs.declared.due.Due.the-variants.{Idle, Fresh, TimedOut, Fast}
-use Rattle.flushing.specs.declared.due.Flown.{Flown}
 use Rattle.flushing.specs.declared.due.Tally.{Tally}
-use Rattle.flushing.specs.declared.clock.Tick.{Tick}
 use Rattle.flushing.specs.Windows.{halved, withCwnd, resentFast, timedOut, opened, congestionAfter}
 use Rattle.flushing.specs.Probing.{askBit, longerWait, armed}
-use Rattle.flushing.specs.Due.{resendsFast, dueOf, longerRto, again, sentAs, flownBy, goesOut, dies, counted}
+use Rattle.flushing.specs.Due.{resendsFast, dueOf, longerRto, again, sentAs, flownBy, dies, counted}
 use Rattle.flushing.specs.Clocks.{restarted, dueFrom, nextFlush, ticked, tmFlush}
 
 -- ---- the window of congestion

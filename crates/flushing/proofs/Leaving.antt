@@ -1,13 +1,13 @@
 -- How many segments leave the queue, by the numbers between snd_nxt and the limit: the source's loop counted at once. Assumes nothing.
-use Prim.Native.Nat.{ℕ, zero, suc, _+_, _-_, _≤_, _<_, _^_, min}
+use Prim.Native.Nat.{ℕ, zero, suc, _≤_, _<_, _^_, min}
 use native.Mathlib.Omega.{arith}
 use mathlib.Core.Path.{_≡_, refl, sym, ap, _∙_}
 use mathlib.Core.Bool.{Bool, true, false}
 use mathlib.Core.Logic.{_⊎_, inl, inr, ⊎-elim}
-use lib.Dec.{ltb, leb}
+use lib.Dec.{ltb}
 use borrow.Author.Tests.{ltb-true, ltb-false, lt-ltb, le-ltb, le-leb, lt-leb}
 use Rattle.serial.specs.Branch.{pick}
-use Rattle.serial.specs.Wrap.{add32, sub32, notBefore}
+use Rattle.serial.specs.Wrap.{add32, sub32}
 use Rattle.flushing.specs.Windows.{leaving, leavingBetween}
 
 -- ---- by the numbers between

@@ -2,3 +2,4 @@ pub mod Choices
 pub mod Leaving
 pub mod Far
 pub mod Packing
+pub mod Calls

@@ -1,5 +1,5 @@
 -- The laws of packing: the lengths follow from lengths alone, and no byte is lost or moved. Assumes nothing.
-use Prim.Native.Nat.{ℕ, zero, suc, _+_}
+use Prim.Native.Nat.{ℕ, zero, suc, _+_, _≤_}
 use native.Mathlib.Nat.{add-assoc}
 use native.Mathlib.Omega.{arith}
 use mathlib.Core.Path.{_≡_, refl, sym, ap, _∙_}
@@ -7,10 +7,8 @@ use mathlib.Core.Bool.{Bool, true, false}
 use mathlib.Core.List.{List, [], _∷_, _++_, map, append-assoc, append-nil}
 use lib.ListN.{length, length-append}
 use lib.Dec.{ltb}
+use borrow.Author.Tests.{ltb-false}
 use Rattle.serial.specs.Branch.{pick, pick-ap}
-use Rattle.wire.specs.Header.{headerBytes}
-use Rattle.wire.specs.declared.Header.{Header}
-use Rattle.flushing.specs.Pieces.{Piece, bytesOf, sizeOf}
 use Rattle.flushing.specs.Pack.{flat, total, written, goes, stays, pack, packAll, writtenSize, goesSize, staysSize, packSizes, packAllSizes}
 
 -- ---- lists of lists
@@ -98,16 +96,85 @@ module _ {A : Type 0} where
           lengths-append (pack mtu w ps .0) (written (pack mtu w ps .1))
           ∙ rw (written-size (pack mtu w ps .1), pack-sizes w ps, pack-rest w ps)
 
--- ---- pieces
+-- ---- sizes: their sum, and the most
 
--- a header has 24 bytes
-pub header-size : (h : Header) → length (headerBytes h) ≡ 24
-unfolding headerBytes
-header-size h = refl
+-- each at most b
+abbrev pub AtMost : ℕ → List ℕ → Type 0
+AtMost b [] = Unit {0}
+AtMost b (n ∷ l) = (n ≤ b) × AtMost b l
 
-pub piece-size : (p : Piece) → length (bytesOf p) ≡ sizeOf p
-piece-size p = length-append (headerBytes (p .header)) (p .payload) ∙ rw (header-size (p .header))
+at-most-append : (b : ℕ) (x y : List ℕ) → AtMost b x → AtMost b y → AtMost b (x ++ y)
+at-most-append b [] y p q = q
+at-most-append b (n ∷ x) y p q = (p .0, at-most-append b x y (p .1) q)
 
-pub piece-sizes : (ps : List Piece) → map length (map bytesOf ps) ≡ map sizeOf ps
-piece-sizes [] = refl
-piece-sizes (p ∷ ps) = rw (piece-size p, piece-sizes ps)
+total-append : (x y : List ℕ) → total (x ++ y) ≡ total x + total y
+unfolding total
+total-append [] y = omega arith
+total-append (n ∷ x) y = ap (λ (k : ℕ). n + k) (total-append x y) ∙ sym (add-assoc n (total x) (total y))
+
+written-total : (n : ℕ) → total (writtenSize n) ≡ n
+unfolding total writtenSize
+written-total zero = refl
+written-total (suc n) = omega arith
+
+written-most : (b n : ℕ) → n ≤ b → AtMost b (writtenSize n)
+unfolding writtenSize
+written-most b zero h = tt
+written-most b (suc n) h = (h, tt)
+
+module _ (mtu : ℕ) where
+  step-total : (n k : ℕ) → total (goesSize mtu n k) + staysSize mtu n k ≡ n + k
+  unfolding goesSize staysSize pick total
+  step-total n k = of (ltb mtu (n + k))
+    where
+      of : (t : Bool) → total (pick t (writtenSize n) []) + pick t k (n + k) ≡ n + k
+      of true = ap (λ (x : ℕ). x + k) (written-total n)
+      of false = omega arith
+
+  -- the sizes of the datagrams and of what waits are those of what waited and the pieces
+  pub sizes-total : (n : ℕ) (ks : List ℕ) → total (packSizes mtu n ks .0) + packSizes mtu n ks .1 ≡ n + total ks
+  unfolding packSizes total
+  sizes-total n [] = omega arith
+  sizes-total n (k ∷ ks) =
+      omega (arith, sizes-total (staysSize mtu n k) ks, step-total n k, total-append (goesSize mtu n k) (packSizes mtu (staysSize mtu n k) ks .0))
+
+  pub all-total : (n : ℕ) (ks : List ℕ) → total (packAllSizes mtu n ks) ≡ n + total ks
+  unfolding packAllSizes
+  all-total n ks =
+      total-append (packSizes mtu n ks .0) (writtenSize (packSizes mtu n ks .1))
+      ∙ ap (λ (x : ℕ). total (packSizes mtu n ks .0) + x) (written-total (packSizes mtu n ks .1))
+      ∙ sizes-total n ks
+
+  -- where neither the mtu, nor what waits, nor a piece is over b, no datagram is, and no more is left to wait
+  module _ (b : ℕ) (m : mtu ≤ b) where
+    stays-most : (n k : ℕ) → k ≤ b → staysSize mtu n k ≤ b
+    unfolding staysSize pick
+    stays-most n k h = of (ltb mtu (n + k)) refl
+      where
+        of : (t : Bool) → ltb mtu (n + k) ≡ t → pick t k (n + k) ≤ b
+        of true e = h
+        of false e = omega (arith, ltb-false mtu (n + k) e)
+
+    goes-most : (n k : ℕ) → n ≤ b → AtMost b (goesSize mtu n k)
+    unfolding goesSize pick
+    goes-most n k h = of (ltb mtu (n + k))
+      where
+        of : (t : Bool) → AtMost b (pick t (writtenSize n) [])
+        of true = written-most b n h
+        of false = tt
+
+    pub rest-most : (n : ℕ) (ks : List ℕ) → n ≤ b → AtMost b ks → packSizes mtu n ks .1 ≤ b
+    unfolding packSizes
+    rest-most n [] h a = h
+    rest-most n (k ∷ ks) h a = rest-most (staysSize mtu n k) ks (stays-most n k (a .0)) (a .1)
+
+    pub each-most : (n : ℕ) (ks : List ℕ) → n ≤ b → AtMost b ks → AtMost b (packSizes mtu n ks .0)
+    unfolding packSizes
+    each-most n [] h a = tt
+    each-most n (k ∷ ks) h a =
+        at-most-append b (goesSize mtu n k) (packSizes mtu (staysSize mtu n k) ks .0) (goes-most n k h) (each-most (staysSize mtu n k) ks (stays-most n k (a .0)) (a .1))
+
+    pub all-most : (n : ℕ) (ks : List ℕ) → n ≤ b → AtMost b ks → AtMost b (packAllSizes mtu n ks)
+    unfolding packAllSizes
+    all-most n ks h a =
+        at-most-append b (packSizes mtu n ks .0) (writtenSize (packSizes mtu n ks .1)) (each-most n ks h a) (written-most b (packSizes mtu n ks .1) (rest-most n ks h a))

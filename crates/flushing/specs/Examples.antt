@@ -6,20 +6,18 @@ use mathlib.Core.List.{List, [], _∷_, _++_, map}
 use lib.ListN.{length}
 use Rattle.serial.specs.Branch.{pick}
 use Rattle.serial.specs.Wrap.{signed32}
-use Rattle.wire.specs.declared.Header.{Header}
 use Rattle.wire.specs.Header.{headerBytes}
 use Rattle.block.specs.declared.settings.Settings.{Settings}
 use Rattle.block.specs.declared.clock.Clock.{Clock}
 use Rattle.block.specs.declared.congestion.Congestion.{Congestion}
 use Rattle.block.specs.declared.probe.Probe.{Probe}
 use Rattle.block.specs.declared.refusal.Refusal.the-variants.{NeedUpdate, OutTooSmall}
-use Rattle.block.specs.declared.refusal.Answer.the-variants.{Done, Refused}
+use Rattle.block.specs.declared.refusal.Answer.the-variants.{Refused}
 use Rattle.block.specs.Fresh.{freshSettings, freshClock, freshCongestion, freshProbe}
 use Rattle.sending.specs.Rules.{Segment, Sending}
 use Rattle.sending.specs.Send.{verdict, fills, joins, pieces, needed, cut, lastOf, filled, queued, leftBy, send}
 use Rattle.flushing.specs.declared.due.Record.{Record}
 use Rattle.flushing.specs.declared.due.Pace.{Pace}
-use Rattle.flushing.specs.declared.due.Due.{Due}
 use Rattle.flushing.specs.declared.due.Due.the-variants.{Idle, Fresh, TimedOut, Fast}
 use Rattle.flushing.specs.declared.due.Tally.{Tally}
 use Rattle.flushing.specs.Windows.{windowOf, leaving, leavingBetween, resentOf, resentFast, timedOut, opened, congestionAfter}

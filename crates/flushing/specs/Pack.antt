@@ -1,7 +1,6 @@
 -- "Before each piece, the waiting bytes go out if they and the piece exceed mtu"; "an empty write is no datagram". Pieces packed into datagrams, as
 -- bytes and as lengths alone: what joins the two, and that no byte is lost or moved, is in proofs/Packing. Assumes nothing.
 use Prim.Native.Nat.{ℕ, zero, suc, _+_}
-use mathlib.Core.Bool.{Bool}
 use mathlib.Core.List.{List, [], _∷_, _++_}
 use lib.ListN.{length}
 use lib.Dec.{ltb}

@@ -2,7 +2,7 @@
 -- lent bytes and their lengths in a lent list"; "flush_ack leaves its last bytes waiting"; refusals 9 and 13. Assumes nothing.
 use Prim.Native.Nat.{ℕ}
 use mathlib.Core.Bool.{Bool, false, _||_}
-use mathlib.Core.List.{List, [], _∷_, _++_, map}
+use mathlib.Core.List.{List, [], _++_, map}
 use lib.ListN.{length, take, drop}
 use lib.Dec.{ltb}
 use Rattle.serial.specs.Branch.{pick}

@@ -4,7 +4,7 @@ use Prim.Native.Nat.{ℕ, zero, suc, _-_, _/_, _^_, min, max}
 use mathlib.Core.Bool.{Bool, not}
 use lib.Dec.{ltb, leb}
 use Rattle.serial.specs.Branch.{pick}
-use Rattle.serial.specs.Wrap.{add32, sub32, add16, mul64, low16, notBefore}
+use Rattle.serial.specs.Wrap.{add32, add16, mul64, low16, notBefore}
 use Rattle.block.specs.declared.congestion.Congestion.{Congestion}
 
 -- `wnd_unused`: "if self.rcv_queue.len() < self.rcv_wnd .. { self.rcv_wnd - self.rcv_queue.len() .. } else { 0 }"; a difference ends at 0
