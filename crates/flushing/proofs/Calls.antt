@@ -1,0 +1,94 @@
+-- What flush_ack and flush put out: their lengths, by which 13 is decided, follow from sizes alone, and their bytes are what waited and then the
+-- pieces. And what they leave well formed: the wait of the probe. Assumes nothing.
+use Prim.Native.Nat.{ℕ, _+_, _/_, _%_, _^_}
+use native.Mathlib.Nat.{mod-eq-of-lt}
+use native.Mathlib.Omega.{arith}
+use mathlib.Core.Path.{_≡_, refl, _∙_}
+use mathlib.Core.Bool.{Bool, true, false}
+use mathlib.Core.Logic.{inl, inr, ⊎-elim}
+use mathlib.Core.List.{List, [], _∷_, _++_, map}
+use lib.ListN.{length, replicate, length-append}
+use lib.Dec.{eqb}
+use borrow.Author.Tests.{eqb-false}
+use Rattle.serial.specs.Branch.{pick}
+use Rattle.serial.specs.Wrap.{notBefore}
+use Rattle.wire.specs.declared.Header.{Header}
+use Rattle.wire.specs.Header.{headerBytes}
+use Rattle.block.specs.declared.probe.Probe.{Probe}
+use Rattle.block.specs.Sizes.{Within}
+use Rattle.block.specs.WellFormed.{ProbeFits}
+use Rattle.flushing.specs.Probing.{askBit, longerWait, armed, probed, probeWndSize}
+use Rattle.flushing.specs.Pack.{flat, packSizes, packAllSizes}
+use Rattle.flushing.specs.Pieces.{Ack, Piece, bytesOf, sizeOf, ackPieces}
+use Rattle.flushing.specs.declared.headers.Told.{Told}
+use Rattle.flushing.specs.Rules.{Outgoing, toldBy, flushedAck, pieces, flushed}
+use Rattle.flushing.proofs.Packing.{pack-sizes, joined, all-sizes, all-joined}
+
+-- ---- pieces
+
+-- a header has 24 bytes
+pub header-size : (h : Header) → length (headerBytes h) ≡ 24
+unfolding headerBytes
+header-size h = refl
+
+pub piece-size : (p : Piece) → length (bytesOf p) ≡ sizeOf p
+piece-size p = length-append (headerBytes (p .header)) (p .payload) ∙ rw (header-size (p .header))
+
+pub piece-sizes : (ps : List Piece) → map length (map bytesOf ps) ≡ map sizeOf ps
+piece-sizes [] = refl
+piece-sizes (p ∷ ps) = rw (piece-size p, piece-sizes ps)
+
+pub ack-piece-sizes : (t : Told) (acks : List Ack) → map sizeOf (ackPieces t acks) ≡ replicate (length acks) 24
+ack-piece-sizes t [] = refl
+ack-piece-sizes t (a ∷ acks) = rw (ack-piece-sizes t acks)
+
+-- ---- the calls
+
+module _ (o : Outgoing) where
+  pub ack-sizes : map length (flushedAck o .datagrams) ≡ packSizes (o .settings .mtu) (length (o .waiting)) (replicate (length (o .acks)) 24) .0
+  unfolding flushedAck
+  ack-sizes =
+      pack-sizes (o .settings .mtu) (o .waiting) (map bytesOf (ackPieces (toldBy o) (o .acks)))
+      ∙ rw (piece-sizes (ackPieces (toldBy o) (o .acks)), ack-piece-sizes (toldBy o) (o .acks))
+
+  pub ack-joined : flat (flushedAck o .datagrams) ++ flushedAck o .side .waiting ≡ o .waiting ++ flat (map bytesOf (ackPieces (toldBy o) (o .acks)))
+  unfolding flushedAck
+  ack-joined = joined (o .settings .mtu) (o .waiting) (map bytesOf (ackPieces (toldBy o) (o .acks)))
+
+  pub flush-sizes : map length (flushed o .datagrams) ≡ packAllSizes (o .settings .mtu) (length (o .waiting)) (map sizeOf (pieces o))
+  unfolding flushed
+  flush-sizes = all-sizes (o .settings .mtu) (o .waiting) (map bytesOf (pieces o)) ∙ rw (piece-sizes (pieces o))
+
+  pub flush-joined : flat (flushed o .datagrams) ≡ o .waiting ++ flat (map bytesOf (pieces o))
+  unfolding flushed
+  flush-joined = all-joined (o .settings .mtu) (o .waiting) (map bytesOf (pieces o))
+
+-- ---- the probe stays well formed
+
+-- a wait and half of it, of one from 7,000 to 120,000
+longer-fits : (wait : ℕ) → Within 7000 wait 120000 → Within 7000 (longerWait wait) 120000
+longer-fits wait w =
+    let e : (wait + wait / 2) % 2 ^ 32 ≡ wait + wait / 2 = mod-eq-of-lt (omega (arith, w .high)) in
+    record { low = rw e (omega (arith, w .low)); high = omega arith }
+
+either-fits : (t : Bool) (p q : Probe) → ProbeFits p → ProbeFits q → ProbeFits (pick t p q)
+unfolding pick
+either-fits true p q a b = a
+either-fits false p q a b = b
+
+module _ (current : ℕ) (p : Probe) (f : ProbeFits p) where
+  probed-fits : ProbeFits (probed current p)
+  unfolding probed pick
+  probed-fits = of (eqb (p .«probe_wait») 0) refl
+    where
+      of : (t : Bool) → eqb (p .«probe_wait») 0 ≡ t
+          → ProbeFits (pick t (armed current (p .bits) 7000) (pick (notBefore current (p .«ts_probe»)) (armed current (askBit (p .bits)) (longerWait (p .«probe_wait»))) p))
+      of true e = record { wait = inr (record { low = omega arith; high = omega arith }) }
+      of false e =
+          either-fits (notBefore current (p .«ts_probe»)) _ p
+          (record { wait = ⊎-elim (λ z. absurd (eqb-false (p .«probe_wait») 0 e z)) (λ w. inr (longer-fits (p .«probe_wait») w)) (f .wait) })
+          f
+
+  pub probe-fits : (rmtWnd : ℕ) → ProbeFits (probeWndSize rmtWnd current p)
+  unfolding probeWndSize
+  probe-fits rmtWnd = either-fits (eqb rmtWnd 0) (probed current p) _ probed-fits (record { wait = inl refl })

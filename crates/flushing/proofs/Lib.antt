@@ -1,0 +1,5 @@
+pub mod Choices
+pub mod Leaving
+pub mod Far
+pub mod Packing
+pub mod Calls

@@ -1,0 +1,46 @@
+// The headers of a flush.
+ghost use mathlib.Core.Path.{_≡_};
+ghost use Rattle.flushing.specs.Pieces.{shortHeader, pushHeader};
+use crate::due::Record;
+use wire::Header;
+
+// What every header of a flush tells: the conv, what is left of the receive window, and the next number awaited.
+pub struct Told {
+    pub conv: u32,
+    pub wnd: u16,
+    pub una: u32,
+}
+
+impl Told {
+    // The header of an ack, an ask or a tell.
+    pub fn short_header(self, cmd: u8, sn: u32, ts: u32) -> Header
+        ensures { λ r. ⌜ r ≡ shortHeader self cmd sn ts ⌝ }
+    {
+        Header {
+            conv: self.conv,
+            cmd: cmd,
+            frg: 0,
+            wnd: self.wnd,
+            ts: ts,
+            sn: sn,
+            una: self.una,
+            len: 0,
+        }
+    }
+
+    // The header of a push with len bytes: its conv is that of its first flight.
+    pub fn push_header(self, record: Record, len: u32) -> Header
+        ensures { λ r. ⌜ r ≡ pushHeader self «record» len ⌝ }
+    {
+        Header {
+            conv: record.conv,
+            cmd: wire::PUSH,
+            frg: (record.frg % 256) as u8,
+            wnd: self.wnd,
+            ts: record.ts,
+            sn: record.sn,
+            una: self.una,
+            len: len,
+        }
+    }
+}
