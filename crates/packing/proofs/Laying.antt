@@ -1,12 +1,12 @@
 -- What is put into a lent list end to end, said from where it stands: what is still to be put, and what the list comes to. Of bytes and of lengths
 -- alike. Assumes nothing.
-use Prim.Native.Nat.{ℕ, _+_, _≤_}
+use Prim.Native.Nat.{ℕ, _+_, _-_, _≤_}
 use native.Mathlib.Nat.{add-zero, zero-add}
 use native.Mathlib.Omega.{arith}
 use mathlib.Core.Path.{_≡_, refl, sym, ap, _∙_}
 use mathlib.Core.List.{List, [], _++_, append-nil}
 use lib.ListN.{length, take, drop, length-append, take-append-drop}
-use lib.Seq.{length-take-le, take-length}
+use lib.Seq.{length-take-le, take-length, take-at}
 use Rattle.ring.specs.Records.{put}
 use Rattle.ring.proofs.Rows.{put-put, put-length}
 
@@ -27,6 +27,14 @@ put-start l x = rw zero-add
 pub copy-start : (l x y : List ℕ) → y ≡ take (length x) x ++ drop (length x) l → y ≡ put l 0 x
 copy-start l x y e = rw take-length at e ∙ sym (put-start l x)
 
+-- the same by way of an array: z is what it held, and t what it holds after the first copy
+pub way-start : (l x : List ℕ) (n : ℕ) (z t y : List ℕ) → length x ≡ n → t ≡ take (length x) x ++ drop (length x) z
+    → y ≡ take (length (take (n - 0) t)) (take (n - 0) t) ++ drop (length (take (n - 0) t)) l → y ≡ put l 0 x
+way-start l x n z t y m e d =
+    let q : n - 0 ≡ length x = omega arith in
+    let f : take (length x) t ≡ x = ap (λ (k : List ℕ). take (length x) k) (rw take-length at e) ∙ take-at x _ (length x) refl in
+    copy-start l x y (rw (q, f) at d)
+
 -- x is still to be put into l from `at` on: then it is m
 pub record Laying (l : List ℕ) (at : ℕ) (x m : List ℕ) : Type 0 where
   pub whole : put l at x ≡ m
@@ -39,6 +47,10 @@ module _ {l : List ℕ} {at : ℕ} {m : List ℕ} where
   -- the list keeps its length
   pub laying-length : {x : List ℕ} → Laying l at x m → length l ≡ length m
   laying-length {x} g = sym (ap length (sym (g .whole)) ∙ put-length l at x (g .room))
+
+  -- that of the list which all was put into
+  pub laying-kept : {x : List ℕ} (k : List ℕ) (from : ℕ) (y : List ℕ) → Laying l at x m → m ≡ put k from y → from + length y ≤ length k → length l ≡ length k
+  laying-kept k from y g e h = laying-length g ∙ ap length e ∙ put-length k from y h
 
   -- the first part fits
   pub laying-fits : (x y : List ℕ) → Laying l at (x ++ y) m → at + length x ≤ length l

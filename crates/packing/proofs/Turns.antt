@@ -191,6 +191,15 @@ module _ {mtu : ℕ} {p r : Packer} where
   pub going-count : {ks : List ℕ} → Going mtu p ks r → (p .count ≤ r .count) × (r .count ≤ p .count + length ks)
   going-count {ks} g = (omega (arith, going-cuts g), omega (arith, going-cuts g, cuts-few mtu (p .used) ks))
 
+  -- the next of them, by the packer p₀ that all came from
+  pub going-within : {k : ℕ} {ks : List ℕ} (p₀ : Packer) (js : List ℕ) → Going mtu p (k ∷ ks) r → r ≡ sized mtu p₀ js
+      → (p .start + p .used + k ≤ p₀ .start + p₀ .used + total js) × (p .count ≤ p₀ .count + length js)
+  unfolding total
+  going-within p₀ js g e =
+      let s = ap (λ (q : Packer). q .start + q .used) e ∙ sized-sum mtu p₀ js in
+      let c = ap (λ (q : Packer). q .count) e ∙ sized-count mtu p₀ js in
+      (omega (arith, going-sum g), omega (arith, going-count g .0, cuts-few mtu (p₀ .used) js))
+
   -- no more than 1,500 bytes wait at the end
   pub going-small : {ks : List ℕ} → Going mtu p ks r → mtu ≤ 1500 → r .used ≤ 1500
   going-small {ks} g m =

@@ -1,1 +1,2 @@
 pub mod Packer
+pub mod Acks

@@ -5,9 +5,9 @@ use lib.ListN.{length}
 use Rattle.flushing.specs.Pack.{total, writtenSize, packSizes}
 use Rattle.packing.specs.declared.packer.Packer.{Packer}
 
--- before any piece
-abbrev pub begun : ℕ → Packer
-begun held = record { start = 0; used = held; count = 0 }
+-- before any piece: so many bytes wait
+abbrev pub holding : ℕ → Packer
+holding held = record { start = 0; used = held; count = 0 }
 
 -- after further pieces of those sizes
 unfoldable pub sized : ℕ → Packer → List ℕ → Packer

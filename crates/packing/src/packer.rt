@@ -5,7 +5,7 @@ ghost use mathlib.Core.List.{_∷_, []};
 ghost use lib.ListN.{length};
 ghost use Rattle.ring.specs.Records.{put};
 ghost use Rattle.flushing.specs.Pack.{goesSize, writtenSize};
-ghost use Rattle.packing.specs.Packer.{begun, sized, closed};
+ghost use Rattle.packing.specs.Packer.{holding, sized, closed};
 
 // The bytes that have gone out; the bytes of the datagram that is being filled; the datagrams that have gone out.
 pub struct Packer {
@@ -17,7 +17,7 @@ pub struct Packer {
 impl Packer {
     // Before any piece: `held` bytes wait.
     pub fn new(held: usize) -> Packer
-        ensures { λ r. ⌜ r ≡ begun held ⌝ }
+        ensures { λ r. ⌜ r ≡ holding held ⌝ }
     {
         Packer {
             start: 0,
