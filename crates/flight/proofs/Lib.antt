@@ -4,3 +4,4 @@
 pub mod Places
 pub mod Rows
 pub mod Walks
+pub mod Seen

@@ -126,3 +126,98 @@ module _ (f : ℕ → Record → Record) where
       let d = rw (← renewed-marks m q r) at (b .1) in
       rw (walk-live x q qs m h, segments-first (walk (add32 x 1) qs n) q qs, segments-live m q qs h, retold-first x, record-is m q)
       (rw (walk-other (add32 x 1) qs n s d q (o .0), renewed-own m z q (b .0) r h, walk-seen (add32 x 1) qs n s d (o .1), over-apart (cell 8 n) (cell 8 m) q qs (o .0) (renewed-other m z q (b .0) r))))
+
+-- ---- the walk of a flush
+
+module _ (pace : Pace) where
+  abbrev flying : ℕ → Record → Record
+  flying x r = flownBy pace r .after
+
+  module _ (m : Store) (q : ℕ) where
+    pub flown-gap : markIn m q ≡ 0 → flownAt pace m q ≡ m
+    unfolding flownAt
+    flown-gap h = pick-true _ _ (eq-eqb (markIn m q) 0 h)
+
+    pub flown-live : (markIn m q ≡ 0 → ⊥) → flownAt pace m q ≡ renewedAt m q (flownBy pace (recordIn m q) .after)
+    unfolding flownAt
+    flown-live h = pick-false _ _ (ne-eqb (markIn m q) 0 h)
+
+  pub flown-none : (m : Store) → flownOver pace [] m ≡ m
+  unfolding flownOver
+  flown-none m = refl
+
+  pub flown-first : (q : ℕ) (qs : List ℕ) (m : Store) → flownOver pace (q ∷ qs) m ≡ flownOver pace qs (flownAt pace m q)
+  unfolding flownOver
+  flown-first q qs m = refl
+
+  flown-walk : (x : ℕ) (qs : List ℕ) (m : Store) → flownOver pace qs m ≡ walk flying x qs m
+  flown-walk x [] m = flown-none m ∙ sym (walk-none flying x m)
+  flown-walk x (q ∷ qs) m =
+      by-walk flying x q qs m (λ (y : Store). flownOver pace (q ∷ qs) m ≡ y)
+      (λ h. flown-first q qs m ∙ rw (flown-gap m q h) (flown-walk x qs m))
+      (λ h. flown-first q qs m ∙ rw (flown-live m q h) (flown-walk (add32 x 1) qs (renewedAt m q (flownBy pace (recordIn m q) .after))))
+
+  retold-flown : (x : ℕ) (l : List Segment) → retold flying x l ≡ map (sentOut pace) l
+  retold-flown x [] = retold-none flying x
+  retold-flown x (s ∷ l) = retold-first flying x s l ∙ rw (retold-flown (add32 x 1) l)
+
+  module _ (qs : List ℕ) (m : Store) where
+    pub flown-marks : flownOver pace qs m .marks ≡ m .marks
+    flown-marks = rw (flown-walk 0 qs m) (walk-marks flying 0 qs m)
+
+    pub flown-room : flownOver pace qs m .room ≡ m .room
+    flown-room = rw (flown-walk 0 qs m) (walk-room flying 0 qs m)
+
+    module _ (z : Sized 8 m) (b : Below (length (m .marks)) qs) where
+      pub flown-sized : Sized 8 (flownOver pace qs m)
+      flown-sized = rw (flown-walk 0 qs m) (walk-sized flying 0 qs m z b)
+
+      pub flown-other : (t : ℕ) → Apart t qs → cell 8 (flownOver pace qs m) t ≡ cell 8 m t
+      flown-other t a = rw (flown-walk 0 qs m) (walk-other flying 0 qs m z b t a)
+
+      pub flown-seen : Once qs → segmentsAt (flownOver pace qs m) qs ≡ map (sentOut pace) (segmentsAt m qs)
+      flown-seen o = rw (flown-walk 0 qs m) (walk-seen flying 0 qs m z b o ∙ retold-flown 0 (segmentsAt m qs))
+
+-- ---- segments that leave the queue: no place is a gap
+
+module _ (conv current rxRto : ℕ) where
+  abbrev launching : ℕ → Record → Record
+  launching sn r = numbered conv sn current rxRto r
+
+  launched-none : (sn : ℕ) (m : Store) → launchedOver conv current rxRto sn [] m ≡ m
+  unfolding launchedOver
+  launched-none sn m = refl
+
+  pub launched-first : (sn q : ℕ) (qs : List ℕ) (m : Store) → launchedOver conv current rxRto sn (q ∷ qs) m ≡ launchedOver conv current rxRto (add32 sn 1) qs (renewedAt m q (numbered conv sn current rxRto (recordIn m q)))
+  unfolding launchedOver
+  launched-first sn q qs m = refl
+
+  launched-walk : (sn : ℕ) (qs : List ℕ) (m : Store) → Each (λ (q : ℕ). markIn m q ≡ 0 → ⊥) qs → launchedOver conv current rxRto sn qs m ≡ walk launching sn qs m
+  launched-walk sn [] m l = launched-none sn m ∙ sym (walk-none launching sn m)
+  launched-walk sn (q ∷ qs) m l =
+      let r = numbered conv sn current rxRto (recordIn m q) in
+      launched-first sn q qs m
+      ∙ launched-walk (add32 sn 1) qs (renewedAt m q r) (rw (renewed-marks m q r) (l .1))
+      ∙ sym (walk-live launching sn q qs m (l .0))
+
+  retold-launched : (sn : ℕ) (l : List Segment) → retold launching sn l ≡ rule.launched conv current rxRto sn l
+  unfolding retold rule.launched
+  retold-launched sn [] = refl
+  retold-launched sn (s ∷ l) = rw (retold-launched (add32 sn 1) l)
+
+  module _ (sn : ℕ) (qs : List ℕ) (m : Store) (l : Each (λ (q : ℕ). markIn m q ≡ 0 → ⊥) qs) where
+    pub launched-marks : launchedOver conv current rxRto sn qs m .marks ≡ m .marks
+    launched-marks = rw (launched-walk sn qs m l) (walk-marks launching sn qs m)
+
+    pub launched-room : launchedOver conv current rxRto sn qs m .room ≡ m .room
+    launched-room = rw (launched-walk sn qs m l) (walk-room launching sn qs m)
+
+    module _ (z : Sized 8 m) (b : Below (length (m .marks)) qs) where
+      pub launched-sized : Sized 8 (launchedOver conv current rxRto sn qs m)
+      launched-sized = rw (launched-walk sn qs m l) (walk-sized launching sn qs m z b)
+
+      pub launched-other : (t : ℕ) → Apart t qs → cell 8 (launchedOver conv current rxRto sn qs m) t ≡ cell 8 m t
+      launched-other t a = rw (launched-walk sn qs m l) (walk-other launching sn qs m z b t a)
+
+      pub launched-seen : Once qs → segmentsAt (launchedOver conv current rxRto sn qs m) qs ≡ rule.launched conv current rxRto sn (segmentsAt m qs)
+      launched-seen o = rw (launched-walk sn qs m l) (walk-seen launching sn qs m z b o ∙ retold-launched sn (segmentsAt m qs))
