@@ -5,3 +5,4 @@ pub mod Places
 pub mod Rows
 pub mod Walks
 pub mod Seen
+pub mod Out

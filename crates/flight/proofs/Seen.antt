@@ -125,7 +125,7 @@ module _ (s : Sender) (m : Store) (o : Sound 8 (s .ring) m) where
     pub leavers-fit : Each (λ (q : ℕ). markIn m q ≤ 1477) leavers
     leavers-fit = places-each p start (λ (q : ℕ). markIn m q ≤ 1477) reach k (λ i a b. o .marked .fit i (omega arith))
 
-    leavers-below : Below p leavers
+    pub leavers-below : Below p leavers
     leavers-below = places-below p start inside reach k many
 
     pub launched-same : later .marks ≡ m .marks
@@ -199,6 +199,10 @@ module _ (s : Sender) (m : Store) (o : Sound 8 (s .ring) m) where
     launched-waiting : map segmentOf (waitingOf 8 further later) ≡ stay
     unfolding waitingOf
     launched-waiting = let a = o .shaped .many in rw (others (reach + k) (s .ring .unsent - k) (omega arith) (λ i a b c d. omega arith))
+
+    pub leavers-seen : take k (seen s m .waiting) ≡ segmentsAt m leavers
+    unfolding seen
+    leavers-seen = rw (parts, take-at leave stay k leave-length) (segments-seen m start reach k)
 
     -- the outcome of the rule by which k leave
     pub seen-launched : seen (launchedAt conv current rxRto k s m .sender) (launchedAt conv current rxRto k s m .store)
