@@ -107,7 +107,7 @@ at-most-append : (b : ℕ) (x y : List ℕ) → AtMost b x → AtMost b y → At
 at-most-append b [] y p q = q
 at-most-append b (n ∷ x) y p q = (p .0, at-most-append b x y (p .1) q)
 
-total-append : (x y : List ℕ) → total (x ++ y) ≡ total x + total y
+pub total-append : (x y : List ℕ) → total (x ++ y) ≡ total x + total y
 unfolding total
 total-append [] y = omega arith
 total-append (n ∷ x) y = ap (λ (k : ℕ). n + k) (total-append x y) ∙ sym (add-assoc n (total x) (total y))

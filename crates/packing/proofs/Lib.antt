@@ -1,0 +1,5 @@
+-- `Laying` has the laws of what is put end to end into a lent list, `Turns` those of a packing, one piece or several at a time, `AckBytes` those of the
+-- acks' bytes and of a probe's.
+pub mod Laying
+pub mod Turns
+pub mod AckBytes

@@ -1,0 +1,2 @@
+pub mod Packer
+pub mod Acks

@@ -1,0 +1,6 @@
+// Pieces packed into datagrams, end to end in lent bytes, and their lengths in a lent list: how far a packing has come, the acks and the probes of a
+// flush, and flush_ack.
+pub mod packer; // how far it has come
+pub mod puts; // bytes put into lent bytes
+pub mod acks; // the acks
+pub mod probes; // the ask and the tell
