@@ -4,12 +4,12 @@ use Prim.Native.Nat.{ℕ, zero, suc, _+_, _-_, _≤_, _<_}
 use native.Mathlib.Omega.{arith}
 use native.Mathlib.Numerals.{add-one}
 use mathlib.Core.Path.{_≡_, refl, sym, ap, _∙_}
-use mathlib.Core.List.{List, [], _∷_, _++_, append-assoc}
+use mathlib.Core.List.{List, [], _∷_, _++_, append-assoc, append-nil}
 use lib.ListN.{length}
 use Rattle.ring.specs.Places.{place, along}
 use Rattle.ring.proofs.Places.{place-low, place-high, by-place, place-in, place-apart, along-first}
 use Rattle.snd_ring.specs.Store.{Store, cell, seen}
-use Rattle.flight.specs.Places.{placesOf, runOf, over}
+use Rattle.flight.specs.Places.{placesOf, runOf, over, Covers}
 
 -- ---- lists of places
 
@@ -58,6 +58,17 @@ module _ (p s : ℕ) where
   unfolding placesOf
   places-none from = refl
 
+  -- one index less, and none
+  module _ (from k i : ℕ) where
+    pub places-next : i < k → placesOf p s (from + i) (k - i) ≡ place p s (from + i) ∷ placesOf p s (from + (i + 1)) (k - (i + 1))
+    places-next h =
+        let e : k - i ≡ suc (k - (i + 1)) = omega arith in
+        let f : suc (from + i) ≡ from + (i + 1) = omega arith in
+        rw (e, ← f) (places-first (from + i) (k - (i + 1)))
+
+    pub places-end : k ≤ i → placesOf p s (from + i) (k - i) ≡ []
+    places-end h = let e : k - i ≡ 0 = omega arith in rw e (places-none (from + i))
+
   pub places-add : (from a b : ℕ) → placesOf p s from (a + b) ≡ placesOf p s from a ++ placesOf p s (from + a) b
   unfolding placesOf
   places-add from zero b = let e : 0 + b ≡ b = omega arith in let z : from + 0 ≡ from = omega arith in rw (e, z)
@@ -92,6 +103,19 @@ pub run-first : (q n : ℕ) → runOf q (suc n) ≡ q ∷ runOf (suc q) n
 unfolding runOf
 run-first q n = refl
 
+-- one place less, and none
+module _ (q to : ℕ) where
+  pub run-next : q < to → runOf q (to - q) ≡ q ∷ runOf (q + 1) (to - (q + 1))
+  unfolding runOf
+  run-next h = let e : to - q ≡ suc (to - (q + 1)) = omega arith in rw (e, add-one)
+
+  pub run-end : to ≤ q → runOf q (to - q) ≡ []
+  unfolding runOf
+  run-end h = let e : to - q ≡ 0 = omega arith in rw e
+
+pub run-all : (n : ℕ) → runOf 0 (n - 0) ≡ runOf 0 n
+run-all n = let e : n - 0 ≡ n = omega arith in rw e
+
 module _ (p s : ℕ) where
   low-run : (from n : ℕ) → s + from + n ≤ p → placesOf p s from n ≡ runOf (s + from) n
   unfolding placesOf runOf
@@ -124,6 +148,27 @@ module _ (p s : ℕ) where
         ap (placesOf p s from) d ∙ places-add p s from (p - q) (n - (p - q))
         ∙ rw (low-run from (p - q) (omega arith), high-run (from + (p - q)) (n - (p - q)) (omega arith), g, e, f))
         (λ a f. absurd (omega arith))
+
+-- ---- `runs_of`
+
+module _ (p s from n : ℕ) (inside : s < p) (many : from + n ≤ p) {q : ℕ} (e : (q ≡ place p s from) × (q < p)) where
+  no-rest : runOf 0 0 ≡ []
+  unfolding runOf
+  no-rest = refl
+
+  pub covers-one : n ≤ p - q → Covers p s from n (record { from = q; to = q + n; rest = 0 })
+  covers-one h =
+      let d : q + n - q ≡ n = omega arith in
+      record {
+        places = one-run p s inside from n many (e .0) (omega arith) ∙ rw (d, no-rest) (sym (append-nil (runOf q n)));
+        low = omega arith;
+        high = omega arith;
+        behind = omega arith;
+      }
+
+  pub covers-two : p - q < n → Covers p s from n (record { from = q; to = p; rest = n - (p - q) })
+  covers-two h =
+      record { places = two-runs p s inside from n many (e .0) (omega arith); low = omega arith; high = omega arith; behind = omega arith }
 
 -- ---- what is seen along the indices
 

@@ -184,7 +184,7 @@ module _ (conv current rxRto : ℕ) where
   abbrev launching : ℕ → Record → Record
   launching sn r = numbered conv sn current rxRto r
 
-  launched-none : (sn : ℕ) (m : Store) → launchedOver conv current rxRto sn [] m ≡ m
+  pub launched-none : (sn : ℕ) (m : Store) → launchedOver conv current rxRto sn [] m ≡ m
   unfolding launchedOver
   launched-none sn m = refl
 
