@@ -9,13 +9,13 @@ use mathlib.Core.List.{List, [], _∷_, _++_, map, append-nil, append-assoc}
 use lib.ListN.{length, take, drop, replicate}
 use Rattle.serial.specs.Branch.{pick, pick-ap}
 use Rattle.ring.specs.Records.{put, numberAt}
-use Rattle.ring.proofs.Rows.{by-copy}
+use Rattle.ring.proofs.Sequences.{map-append}
 use Rattle.wire.specs.declared.Header.{Header}
 use Rattle.wire.specs.Header.{headerBytes}
 use Rattle.flushing.specs.declared.headers.Told.{Told}
 use Rattle.flushing.specs.Pack.{flat, total, packSizes, goesSize}
-use Rattle.flushing.specs.Pieces.{Ack, bytesOf, shortHeader, ackPieces, lastOf, lastAck, probePiece}
-use Rattle.flushing.proofs.Packing.{AtMost, length-flat}
+use Rattle.flushing.specs.Pieces.{Ack, Piece, bytesOf, shortHeader, ackPieces, lastOf, lastAck, probePiece}
+use Rattle.flushing.proofs.Packing.{AtMost, flat-append, length-flat}
 use Rattle.packing.specs.declared.packer.Packer.{Packer}
 use Rattle.packing.specs.Packer.{sized}
 use Rattle.packing.specs.Acks.{ackAt, acksFrom, acksOf, ackBytes, probeHead}
@@ -66,6 +66,27 @@ module _ (t : Told) (acks : List ℕ) where
       let e : to - i ≡ suc (to - (i + 1)) = omega arith in
       let f : i + 1 ≡ suc i = omega arith in
       rw (e, append-nil, f)
+
+  -- those of two parts
+  from-split : (i m n : ℕ) → acksFrom acks i (m + n) ≡ acksFrom acks i m ++ acksFrom acks (i + m) n
+  unfolding acksFrom
+  from-split i zero n =
+      let a : zero + n ≡ n = omega arith in
+      let b : i + zero ≡ i = omega arith in
+      rw (a, b)
+  from-split i (suc m) n =
+      let a : suc m + n ≡ suc (m + n) = omega arith in
+      let b : i + suc m ≡ suc i + m = omega arith in
+      rw (a, b, from-split (suc i) m n)
+
+  pub acks-split : (i m n : ℕ) → flat (ackBytes t (acksFrom acks i (m + n))) ≡ flat (ackBytes t (acksFrom acks i m)) ++ flat (ackBytes t (acksFrom acks (i + m) n))
+  acks-split i m n =
+      let x = acksFrom acks i m in
+      let y = acksFrom acks (i + m) n in
+      ap (λ (l : List Ack). flat (ackBytes t l)) (from-split i m n)
+      ∙ ap (λ (l : List Piece). flat (map bytesOf l)) (map-append _ x y)
+      ∙ ap flat (map-append bytesOf (ackPieces t x) (ackPieces t y))
+      ∙ flat-append (ackBytes t x) (ackBytes t y)
 
   pub acks-none : (i to : ℕ) → to ≤ i → flat (ackBytes t (acksFrom acks i (to - i))) ≡ []
   unfolding acksFrom flat

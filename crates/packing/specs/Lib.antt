@@ -1,2 +1,4 @@
 pub mod Packer
 pub mod Acks
+pub mod FlushAck
+pub mod Examples

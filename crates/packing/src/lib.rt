@@ -4,3 +4,4 @@ pub mod packer; // how far it has come
 pub mod puts; // bytes put into lent bytes
 pub mod acks; // the acks
 pub mod probes; // the ask and the tell
+pub mod flush_ack; // flush_ack in lent memory
