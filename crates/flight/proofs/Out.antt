@@ -20,8 +20,8 @@ use Rattle.transmit.specs.Memory.{resendts, segmentOf, seen}
 use Rattle.flushing.specs.declared.due.Pace.{Pace}
 use Rattle.flushing.specs.declared.due.Tally.{Tally}
 use Rattle.flushing.specs.declared.headers.Told.{Told}
-use Rattle.flushing.specs.Due.{dueOf, flownBy, goesOut, counted}
-use Rattle.flushing.specs.Pieces.{Piece, bytesOf, sizeOf, recordOf, sentOut, pushPiece, launched, duePieces, tallied}
+use Rattle.flushing.specs.Due.{dueOf, flownBy, goesOut, withSent}
+use Rattle.flushing.specs.Pieces.{Piece, pieceBytes, pieceSize, recordOf, sentOut, pushPiece, numberedFrom, duePieces, tallied}
 use Rattle.flushing.proofs.Calls.{piece-sizes}
 use Rattle.flight.specs.Places.{over}
 use Rattle.flight.specs.Memory.{recordIn, renewedAt, markIn, flightPlaces, waitingPlaces, launchedSender, launchedAt, flownAt, flownOver, talliedAt, tallyOver, goesAt, sizeIn, sizeAt, sizesOver, freshSizes, bytesIn, pieceAt, piecesOver, resendtsAt, resendtsOver}
@@ -99,10 +99,10 @@ module _ (told : Told) (pace : Pace) where
     size-live h = rw (goes-live pace m q h)
 
     module _ (z : Sized 8 m) (h : q < length (m .marks)) (f : markIn m q ≤ 1477) where
-      bytes-are : bytesOf (pushPiece told (sentOut pace (segmentOf (segmentAt 8 m q)))) ≡ bytesIn told pace m q
+      bytes-are : pieceBytes (pushPiece told (sentOut pace (segmentOf (segmentAt 8 m q)))) ≡ bytesIn told pace m q
       bytes-are = rw (record-is m q, payload-length m z q h f)
 
-      size-is : sizeOf (pushPiece told (sentOut pace (segmentOf (segmentAt 8 m q)))) ≡ sizeIn m q
+      size-is : pieceSize (pushPiece told (sentOut pace (segmentOf (segmentAt 8 m q)))) ≡ sizeIn m q
       size-is = rw (payload-length m z q h f)
 
   pieces-none : (m : Store) → piecesOver told pace [] m ≡ []
@@ -118,16 +118,16 @@ module _ (told : Told) (pace : Pace) where
   segments-none m = refl
 
   pub pieces-are : (qs : List ℕ) (m : Store) → Sized 8 m → Below (length (m .marks)) qs → Once qs → Each (λ (q : ℕ). markIn m q ≤ 1477) qs
-      → piecesOver told pace qs m ≡ map bytesOf (duePieces told pace (segmentsAt m qs))
+      → piecesOver told pace qs m ≡ map pieceBytes (duePieces told pace (segmentsAt m qs))
   pieces-are [] m z b o f = rw (pieces-none m, segments-none m, due-none)
   pieces-are (q ∷ qs) m z b o f =
       let n = flownAt pace m q in
       let e = at-marks pace m q z (b .0) in
-      let on = pieces-are qs n (at-sized pace m q z (b .0)) (rw e (b .1)) (o .1) (rw e (f .1)) ∙ ap (λ (l : List Segment). map bytesOf (duePieces told pace l)) (ahead pace m q z (b .0) qs (o .0)) in
+      let on = pieces-are qs n (at-sized pace m q z (b .0)) (rw e (b .1)) (o .1) (rw e (f .1)) ∙ ap (λ (l : List Segment). map pieceBytes (duePieces told pace l)) (ahead pace m q z (b .0) qs (o .0)) in
       pieces-first q qs m
       ∙ by-live (markIn m q)
       (λ h _. rw (piece-gap m q h, on, segments-gap m q qs h))
-      (λ h _. rw (piece-live m q h, on, segments-live m q qs h, due-first bytesOf, bytes-are m q z (b .0) (f .0), record-is m q))
+      (λ h _. rw (piece-live m q h, on, segments-live m q qs h, due-first pieceBytes, bytes-are m q z (b .0) (f .0), record-is m q))
 
   sizes-none : (m : Store) → sizesOver pace [] m ≡ []
   unfolding sizesOver over
@@ -138,14 +138,14 @@ module _ (told : Told) (pace : Pace) where
   sizes-first q qs m = over-first (sizeAt pace m) q qs
 
   pub sizes-are : (qs : List ℕ) (m : Store) → Sized 8 m → Below (length (m .marks)) qs → Each (λ (q : ℕ). markIn m q ≤ 1477) qs
-      → sizesOver pace qs m ≡ map sizeOf (duePieces told pace (segmentsAt m qs))
+      → sizesOver pace qs m ≡ map pieceSize (duePieces told pace (segmentsAt m qs))
   sizes-are [] m z b f = rw (sizes-none m, segments-none m, due-none)
   sizes-are (q ∷ qs) m z b f =
       let on = sizes-are qs m z (b .1) (f .1) in
       sizes-first q qs m
       ∙ by-live (markIn m q)
       (λ h _. rw (size-gap m q h, on, segments-gap m q qs h))
-      (λ h _. rw (size-live m q h, on, segments-live m q qs h, due-first sizeOf, size-is m q z (b .0) (f .0), record-is m q))
+      (λ h _. rw (size-live m q h, on, segments-live m q qs h, due-first pieceSize, size-is m q z (b .0) (f .0), record-is m q))
 
 -- ---- what is counted
 
@@ -163,7 +163,7 @@ module _ (deadLink : ℕ) (pace : Pace) where
   tallied-none t = refl
 
   tallied-first : (s : Segment) (l : List Segment) (t : Tally)
-      → tallied deadLink pace (s ∷ l) t ≡ tallied deadLink pace l (counted deadLink (dueOf pace (recordOf s)) (flownBy pace (recordOf s) .after .xmit) t)
+      → tallied deadLink pace (s ∷ l) t ≡ tallied deadLink pace l (withSent deadLink (dueOf pace (recordOf s)) (flownBy pace (recordOf s) .after .xmit) t)
   unfolding tallied
   tallied-first s l t = refl
 
@@ -172,7 +172,7 @@ module _ (deadLink : ℕ) (pace : Pace) where
     unfolding talliedAt
     tallied-gap h = pick-true _ _ (eq-eqb (markIn m q) 0 h)
 
-    pub tallied-live : (markIn m q ≡ 0 → ⊥) → talliedAt deadLink pace m q t ≡ counted deadLink (dueOf pace (recordIn m q)) (flownBy pace (recordIn m q) .after .xmit) t
+    pub tallied-live : (markIn m q ≡ 0 → ⊥) → talliedAt deadLink pace m q t ≡ withSent deadLink (dueOf pace (recordIn m q)) (flownBy pace (recordIn m q) .after .xmit) t
     unfolding talliedAt
     tallied-live h = pick-false _ _ (ne-eqb (markIn m q) 0 h)
 
@@ -230,8 +230,8 @@ module _ (told : Told) (pace : Pace) where
       ∙ rw (due-append f a b, due-first told pace f s a)
       (sym (append-assoc (pick (goesOut (dueOf pace (recordOf s))) (f (pushPiece told (sentOut pace s)) ∷ []) []) (map f (duePieces told pace a)) (map f (duePieces told pace b))))
 
-  fresh-due : (conv current rxRto next : ℕ) (l : List Segment) → map sizeOf (duePieces told pace (launched conv current rxRto next l)) ≡ map wholeSize l
-  unfolding launched duePieces dueOf pick
+  fresh-due : (conv current rxRto next : ℕ) (l : List Segment) → map pieceSize (duePieces told pace (numberedFrom conv current rxRto next l)) ≡ map wholeSize l
+  unfolding numberedFrom duePieces dueOf pick
   fresh-due conv current rxRto next [] = refl
   fresh-due conv current rxRto next (s ∷ l) = ap (λ (x : List ℕ). wholeSize s ∷ x) (fresh-due conv current rxRto (add32 next 1) l)
 
@@ -248,10 +248,10 @@ module _ (s : Sender) (m : Store) (o : Sound 8 (s .ring) m) where
   abbrev flight : List ℕ
   flight = flightPlaces (s .ring) m
 
-  pub pieces-seen : (told : Told) (pace : Pace) → piecesOver told pace flight m ≡ map bytesOf (duePieces told pace (seen s m .flying))
+  pub pieces-seen : (told : Told) (pace : Pace) → piecesOver told pace flight m ≡ map pieceBytes (duePieces told pace (seen s m .flying))
   pieces-seen told pace = rw (flight-segments s m o) (pieces-are told pace flight m (o .shaped .sized) (flight-below s m o) (flight-once s m o) (flight-fit s m o))
 
-  whole-sizes : (told : Told) (pace : Pace) → sizesOver pace flight m ≡ map sizeOf (duePieces told pace (seen s m .flying))
+  whole-sizes : (told : Told) (pace : Pace) → sizesOver pace flight m ≡ map pieceSize (duePieces told pace (seen s m .flying))
   whole-sizes told pace = rw (flight-segments s m o) (sizes-are told pace flight m (o .shaped .sized) (flight-below s m o) (flight-fit s m o))
 
   pub sizes-seen : (told : Told) (pace : Pace) → sizesOver pace flight m ≡ map length (piecesOver told pace flight m)
@@ -278,8 +278,8 @@ module _ (conv current rxRto k : ℕ) (s : Sender) (m : Store) (o : Sound 8 (s .
   pub sizes-launched : sizesOver pace (flightPlaces (later .ring) after) after ≡ sizesOver pace (flightPlaces (s .ring) m) m ++ freshSizes (waitingPlaces (s .ring) m k) m
   sizes-launched =
       whole-sizes later after (launched-sound s m o conv current rxRto k few) nothing pace
-      ∙ ap (λ (x : List Segment). map sizeOf (duePieces nothing pace x)) (ap (λ y. y .flying) (seen-launched s m o conv current rxRto k few))
-      ∙ due-append nothing pace sizeOf (seen s m .flying) (launched conv current rxRto (s .«snd_nxt») (take k (seen s m .waiting)))
+      ∙ ap (λ (x : List Segment). map pieceSize (duePieces nothing pace x)) (ap (λ y. y .flying) (seen-launched s m o conv current rxRto k few))
+      ∙ due-append nothing pace pieceSize (seen s m .flying) (numberedFrom conv current rxRto (s .«snd_nxt») (take k (seen s m .waiting)))
       ∙ rw (
         ← whole-sizes s m o nothing pace,
         fresh-due nothing pace conv current rxRto (s .«snd_nxt») (take k (seen s m .waiting)),

@@ -76,7 +76,7 @@ module _ (m : Store) (z : Sized 8 m) (q : ℕ) (h : q < length (m .marks)) (r : 
   }
 
   -- it is seen
-  pub renewed-own : (getD (m .marks) q 0 ≡ 0 → ⊥) → map segmentOf (cell 8 (renewedAt m q r) q) ≡ rule.segmentOf r (segmentAt 8 m q .payload) ∷ []
+  pub renewed-own : (getD (m .marks) q 0 ≡ 0 → ⊥) → map segmentOf (cell 8 (renewedAt m q r) q) ≡ rule.segmentFrom r (segmentAt 8 m q .payload) ∷ []
   unfolding renewedAt
   renewed-own live = ap (map segmentOf) (cell-live 8 (renewedAt m q r) q live) ∙ rw (partSlot-own 8 (m .rows) q 0 (rowOf r) (omega arith) (in-rows 8 m z q h))
 

@@ -141,10 +141,10 @@ module _ (s : Sender) (m : Store) (o : Sound 8 (s .ring) m) where
       marked = record {
         fit = λ i a. o .marked .fit i (omega arith);
         waits = λ i a b. o .marked .waits i (omega arith) (omega arith);
-        counted =
+        withSent =
             let z : 0 + reach ≡ reach = omega arith in
             let a = rw z at (count-add 1 (m .marks) start 0 reach k) in
-            let b = o .marked .counted in
+            let b = o .marked .withSent in
             let c = all-wait in
             omega arith;
         normal = λ a z. first (ℕ-discrete reach 0) a z;
@@ -185,14 +185,14 @@ module _ (s : Sender) (m : Store) (o : Sound 8 (s .ring) m) where
     leave-length : length leave ≡ k
     leave-length = length-map (memory.seen 8 m start reach k) segmentOf ∙ seen-length 8 m start reach k ∙ all-wait
 
-    launched-flight : map segmentOf (flightOf 8 further later) ≡ map segmentOf (flightOf 8 (s .ring) m) ++ rule.launched conv current rxRto (s .«snd_nxt») leave
+    launched-flight : map segmentOf (flightOf 8 further later) ≡ map segmentOf (flightOf 8 (s .ring) m) ++ rule.numberedFrom conv current rxRto (s .«snd_nxt») leave
     unfolding flightOf
     launched-flight =
         let z : 0 + reach ≡ reach = omega arith in
         let e =
         segments-by m later start reach k launched-same
         ∙ launched-seen conv current rxRto (s .«snd_nxt») leavers m leavers-live (o .shaped .sized) leavers-below (places-once p start inside reach k many)
-        ∙ ap (rule.launched conv current rxRto (s .«snd_nxt»)) (sym (segments-seen m start reach k)) in
+        ∙ ap (rule.numberedFrom conv current rxRto (s .«snd_nxt»)) (sym (segments-seen m start reach k)) in
         rw (seen-add 8 later start 0 reach k, z, others 0 reach (omega arith) (λ i a b c d. omega arith))
         (map-append segmentOf (memory.seen 8 m start 0 reach) (memory.seen 8 later start reach k) ∙ ap (λ (l : List Segment). map segmentOf (memory.seen 8 m start 0 reach) ++ l) e)
 
@@ -209,7 +209,7 @@ module _ (s : Sender) (m : Store) (o : Sound 8 (s .ring) m) where
         ≡ record {
           una = s .«snd_una»;
           next = add32 (s .«snd_nxt») k;
-          flying = seen s m .flying ++ rule.launched conv current rxRto (s .«snd_nxt») (take k (seen s m .waiting));
+          flying = seen s m .flying ++ rule.numberedFrom conv current rxRto (s .«snd_nxt») (take k (seen s m .waiting));
           waiting = drop k (seen s m .waiting);
         }
     unfolding seen launchedAt launchedSender

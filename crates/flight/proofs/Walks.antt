@@ -47,7 +47,7 @@ module _ (f : ℕ → Record → Record) where
 
   unfoldable retold : ℕ → List Segment → List Segment
   retold x [] = []
-  retold x (s ∷ l) = rule.segmentOf (f x (recordOf s)) (s .payload) ∷ retold (add32 x 1) l
+  retold x (s ∷ l) = rule.segmentFrom (f x (recordOf s)) (s .payload) ∷ retold (add32 x 1) l
 
   module _ (x q : ℕ) (qs : List ℕ) (m : Store) where
     abbrev next : Store
@@ -103,7 +103,7 @@ module _ (f : ℕ → Record → Record) where
   unfolding retold
   retold-none x = refl
 
-  retold-first : (x : ℕ) (s : Segment) (l : List Segment) → retold x (s ∷ l) ≡ rule.segmentOf (f x (recordOf s)) (s .payload) ∷ retold (add32 x 1) l
+  retold-first : (x : ℕ) (s : Segment) (l : List Segment) → retold x (s ∷ l) ≡ rule.segmentFrom (f x (recordOf s)) (s .payload) ∷ retold (add32 x 1) l
   unfolding retold
   retold-first x s l = refl
 
@@ -200,8 +200,8 @@ module _ (conv current rxRto : ℕ) where
       ∙ launched-walk (add32 sn 1) qs (renewedAt m q r) (rw (renewed-marks m q r) (l .1))
       ∙ sym (walk-live launching sn q qs m (l .0))
 
-  retold-launched : (sn : ℕ) (l : List Segment) → retold launching sn l ≡ rule.launched conv current rxRto sn l
-  unfolding retold rule.launched
+  retold-launched : (sn : ℕ) (l : List Segment) → retold launching sn l ≡ rule.numberedFrom conv current rxRto sn l
+  unfolding retold rule.numberedFrom
   retold-launched sn [] = refl
   retold-launched sn (s ∷ l) = rw (retold-launched (add32 sn 1) l)
 
@@ -219,5 +219,5 @@ module _ (conv current rxRto : ℕ) where
       pub launched-other : (t : ℕ) → Apart t qs → cell 8 (launchedOver conv current rxRto sn qs m) t ≡ cell 8 m t
       launched-other t a = rw (launched-walk sn qs m l) (walk-other launching sn qs m z b t a)
 
-      pub launched-seen : Once qs → segmentsAt (launchedOver conv current rxRto sn qs m) qs ≡ rule.launched conv current rxRto sn (segmentsAt m qs)
+      pub launched-seen : Once qs → segmentsAt (launchedOver conv current rxRto sn qs m) qs ≡ rule.numberedFrom conv current rxRto sn (segmentsAt m qs)
       launched-seen o = rw (launched-walk sn qs m l) (walk-seen launching sn qs m z b o ∙ retold-launched sn (segmentsAt m qs))

@@ -18,8 +18,8 @@ use Rattle.flushing.specs.declared.due.Record.{Record}
 use Rattle.flushing.specs.declared.due.Pace.{Pace}
 use Rattle.flushing.specs.declared.due.Tally.{Tally}
 use Rattle.flushing.specs.declared.headers.Told.{Told}
-use Rattle.flushing.specs.Due.{numbered, dueOf, flownBy, goesOut, counted}
-use Rattle.flushing.specs.Pieces.{pushHeader}
+use Rattle.flushing.specs.Due.{numbered, dueOf, flownBy, goesOut, withSent}
+use Rattle.flushing.specs.Pieces.{pushHead}
 use Rattle.flight.specs.Places.{placesOf, over}
 
 -- ---- a row as a record
@@ -82,7 +82,7 @@ flownAt pace m q = pick (isGap m q) m (renewedAt m q (flownBy pace (recordIn m q
 
 -- what is counted
 unfoldable pub talliedAt : ℕ → Pace → Store → ℕ → Tally → Tally
-talliedAt deadLink pace m q t = pick (isGap m q) t (counted deadLink (dueOf pace (recordIn m q)) (flownBy pace (recordIn m q) .after .xmit) t)
+talliedAt deadLink pace m q t = pick (isGap m q) t (withSent deadLink (dueOf pace (recordIn m q)) (flownBy pace (recordIn m q) .after .xmit) t)
 
 -- whether it goes out, and how many bytes it then is: a header and the payload
 unfoldable pub goesAt : Pace → Store → ℕ → Bool
@@ -97,7 +97,7 @@ sizeAt pace m q = pick (goesAt pace m q) (sizeIn m q ∷ []) []
 -- these bytes
 abbrev pub bytesIn : Told → Pace → Store → ℕ → List ℕ
 bytesIn told pace m q =
-    headerBytes (pushHeader told (flownBy pace (recordIn m q) .after) (markIn m q - 1)) ++ partSlot 1476 (m .room) q 0 (markIn m q - 1)
+    headerBytes (pushHead told (flownBy pace (recordIn m q) .after) (markIn m q - 1)) ++ partSlot 1476 (m .room) q 0 (markIn m q - 1)
 
 unfoldable pub pieceAt : Told → Pace → Store → ℕ → List (List ℕ)
 pieceAt told pace m q = pick (goesAt pace m q) (bytesIn told pace m q ∷ []) []

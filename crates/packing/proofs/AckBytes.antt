@@ -13,8 +13,8 @@ use Rattle.ring.proofs.Sequences.{map-append}
 use Rattle.wire.specs.declared.Header.{Header}
 use Rattle.wire.specs.Header.{headerBytes}
 use Rattle.flushing.specs.declared.headers.Told.{Told}
-use Rattle.flushing.specs.Pack.{flat, total, packSizes, goesSize}
-use Rattle.flushing.specs.Pieces.{Ack, Piece, bytesOf, shortHeader, ackPieces, lastOf, lastAck, probePiece}
+use Rattle.flushing.specs.Pack.{flat, sumOf, packSizes, goesSize}
+use Rattle.flushing.specs.Pieces.{Ack, Piece, pieceBytes, bareHead, ackPieces, lastAckOf, lastAck, probePiece}
 use Rattle.flushing.proofs.Packing.{AtMost, flat-append, length-flat}
 use Rattle.packing.specs.declared.packer.Packer.{Packer}
 use Rattle.packing.specs.Packer.{sized}
@@ -28,8 +28,8 @@ pub each-alike : (b k n : ℕ) → k ≤ b → AtMost b (replicate n k)
 each-alike b k zero h = tt
 each-alike b k (suc n) h = (h, each-alike b k n h)
 
-pub total-alike : (n k : ℕ) → total (replicate n k) ≡ k * n
-unfolding total
+pub total-alike : (n k : ℕ) → sumOf (replicate n k) ≡ k * n
+unfolding sumOf
 total-alike zero k = omega arith
 total-alike (suc n) k = ap (λ (x : ℕ). k + x) (total-alike n k) ∙ add-comm k (k * n) ∙ sym (mul-suc k n)
 
@@ -56,11 +56,11 @@ module _ (t : Told) (acks : List ℕ) where
   ack-sizes i (suc n) = rw (append-nil, header-size, ack-sizes (suc i) n)
 
   pub acks-length : (i n : ℕ) → length (flat (ackBytes t (acksFrom acks i n))) ≡ 24 * n
-  acks-length i n = length-flat (ackBytes t (acksFrom acks i n)) ∙ ap total (ack-sizes i n) ∙ total-alike n 24
+  acks-length i n = length-flat (ackBytes t (acksFrom acks i n)) ∙ ap sumOf (ack-sizes i n) ∙ total-alike n 24
 
   -- one ack and the others
   acks-next : (i to : ℕ) → i < to
-      → flat (ackBytes t (acksFrom acks i (to - i))) ≡ headerBytes (shortHeader t 82 (numberAt 2 acks i 0) (numberAt 2 acks i 1)) ++ flat (ackBytes t (acksFrom acks (i + 1) (to - (i + 1))))
+      → flat (ackBytes t (acksFrom acks i (to - i))) ≡ headerBytes (bareHead t 82 (numberAt 2 acks i 0) (numberAt 2 acks i 1)) ++ flat (ackBytes t (acksFrom acks (i + 1) (to - (i + 1))))
   unfolding acksFrom flat
   acks-next i to h =
       let e : to - i ≡ suc (to - (i + 1)) = omega arith in
@@ -84,8 +84,8 @@ module _ (t : Told) (acks : List ℕ) where
       let x = acksFrom acks i m in
       let y = acksFrom acks (i + m) n in
       ap (λ (l : List Ack). flat (ackBytes t l)) (from-split i m n)
-      ∙ ap (λ (l : List Piece). flat (map bytesOf l)) (map-append _ x y)
-      ∙ ap flat (map-append bytesOf (ackPieces t x) (ackPieces t y))
+      ∙ ap (λ (l : List Piece). flat (map pieceBytes l)) (map-append _ x y)
+      ∙ ap flat (map-append pieceBytes (ackPieces t x) (ackPieces t y))
       ∙ flat-append (ackBytes t x) (ackBytes t y)
 
   pub acks-none : (i to : ℕ) → to ≤ i → flat (ackBytes t (acksFrom acks i (to - i))) ≡ []
@@ -94,25 +94,25 @@ module _ (t : Told) (acks : List ℕ) where
 
   -- the first of those that are still to be put has been put
   pub acks-on : {dst m : List ℕ} {i to end : ℕ} (sn ts : ℕ) (h : Header) (d : List ℕ) → Laying dst end (flat (ackBytes t (acksFrom acks i (to - i)))) m → i < to
-      → sn ≡ numberAt 2 acks i 0 → ts ≡ numberAt 2 acks i 1 → h ≡ shortHeader t 82 sn ts → d ≡ put dst end (headerBytes h)
+      → sn ≡ numberAt 2 acks i 0 → ts ≡ numberAt 2 acks i 1 → h ≡ bareHead t 82 sn ts → d ≡ put dst end (headerBytes h)
       → Laying d (end + 24) (flat (ackBytes t (acksFrom acks (i + 1) (to - (i + 1))))) m
   acks-on {i = i} {to = to} {end = end} sn ts h d g l a b e f =
-      let z : h ≡ shortHeader t 82 (numberAt 2 acks i 0) (numberAt 2 acks i 1) = rw (← a, ← b) e in
+      let z : h ≡ bareHead t 82 (numberAt 2 acks i 0) (numberAt 2 acks i 1) = rw (← a, ← b) e in
       laying-on (headerBytes h) _ d (end + 24) (rw (acks-next i to l, ← z) at g) f (ap (λ (n : ℕ). end + n) (sym (header-size h)))
 
 -- ---- probes
 
-last-from : (acks : List ℕ) (i n : ℕ) (a : Ack) → lastOf a (acksFrom acks i (suc n)) ≡ ackAt acks (i + n)
-unfolding lastOf acksFrom
+last-from : (acks : List ℕ) (i n : ℕ) (a : Ack) → lastAckOf a (acksFrom acks i (suc n)) ≡ ackAt acks (i + n)
+unfolding lastAckOf acksFrom
 last-from acks i zero a = let e : i + 0 ≡ i = omega arith in rw e
 last-from acks i (suc n) a = let e : suc i + n ≡ i + suc n = omega arith in rw e at (last-from acks (suc i) n (ackAt acks i))
 
 module _ (t : Told) (acks : List ℕ) (n cmd : ℕ) (h : Header) where
-  pub probe-none : n ≡ 0 → h ≡ shortHeader t cmd 0 0 → headerBytes h ≡ probeHead t cmd (acksOf acks n)
-  unfolding lastOf acksFrom
+  pub probe-none : n ≡ 0 → h ≡ bareHead t cmd 0 0 → headerBytes h ≡ probeHead t cmd (acksOf acks n)
+  unfolding lastAckOf acksFrom
   probe-none z e = rw (e, z)
 
-  pub probe-some : (sn ts : ℕ) → (n ≡ 0 → ⊥) → sn ≡ numberAt 2 acks (n - 1) 0 → ts ≡ numberAt 2 acks (n - 1) 1 → h ≡ shortHeader t cmd sn ts
+  pub probe-some : (sn ts : ℕ) → (n ≡ 0 → ⊥) → sn ≡ numberAt 2 acks (n - 1) 0 → ts ≡ numberAt 2 acks (n - 1) 1 → h ≡ bareHead t cmd sn ts
       → headerBytes h ≡ probeHead t cmd (acksOf acks n)
   probe-some sn ts z a b e =
       let k : n ≡ suc (n - 1) = omega (arith, z) in
@@ -121,9 +121,9 @@ module _ (t : Told) (acks : List ℕ) (n cmd : ℕ) (h : Header) where
       rw (e, a, b, l)
 
 -- the probe of the rules is that head, if its bit is set
-pub probe-bytes : (t : Told) (cmd : ℕ) (on : Bool) (acks : List Ack) → map bytesOf (probePiece t cmd on acks) ≡ pick on (probeHead t cmd acks ∷ []) []
+pub probe-bytes : (t : Told) (cmd : ℕ) (on : Bool) (acks : List Ack) → map pieceBytes (probePiece t cmd on acks) ≡ pick on (probeHead t cmd acks ∷ []) []
 unfolding probePiece
-probe-bytes t cmd on acks = pick-ap (map bytesOf) on _ _ ∙ rw append-nil
+probe-bytes t cmd on acks = pick-ap (map pieceBytes) on _ _ ∙ rw append-nil
 
 module _ (mtu : ℕ) (p : Packer) (on : Bool) (head : List ℕ) (l : length head ≡ 24) where
   abbrev asked : List (List ℕ)

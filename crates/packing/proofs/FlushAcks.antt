@@ -13,7 +13,7 @@ use Rattle.serial.specs.Branch.{pick}
 use Rattle.ring.specs.Records.{put}
 use Rattle.ring.proofs.Rows.{put-put}
 use Rattle.flushing.specs.declared.headers.Told.{Told}
-use Rattle.flushing.specs.Pack.{flat, total, writtenSize, goesSize, staysSize, pack, packSizes}
+use Rattle.flushing.specs.Pack.{flat, sumOf, datagramSize, goesSize, staysSize, pack, packSizes}
 use Rattle.flushing.specs.Rules.{Room, exceeds}
 use Rattle.flushing.proofs.Packing.{length-flat, pack-sizes, pack-rest, joined, rest-most}
 use Rattle.packing.specs.declared.packer.Packer.{Packer}
@@ -48,7 +48,7 @@ whole-rest mtu k u zero h = absurd (h refl)
 whole-rest mtu k u (suc n) h = of (λ v. whole-rest mtu k v n) (ltb mtu (u + k)) h
   where
     of : ((v : ℕ) → (length (packSizes mtu v (replicate n k) .0) ≡ 0 → ⊥) → Whole mtu k v n n) → (t : Bool)
-        → (length (pick t (writtenSize u) [] ++ packSizes mtu (pick t k (u + k)) (replicate n k) .0) ≡ 0 → ⊥) → Whole mtu k (pick t k (u + k)) n (suc n)
+        → (length (pick t (datagramSize u) [] ++ packSizes mtu (pick t k (u + k)) (replicate n k) .0) ≡ 0 → ⊥) → Whole mtu k (pick t k (u + k)) n (suc n)
     of f true h =
         let e : k * 1 ≡ k = omega arith in
         let i = whole-pieces mtu k 1 n in
@@ -81,7 +81,7 @@ module _ (t : Told) (acks : List ℕ) (mtu n held : ℕ) where
 
   -- of the packer p that n acks come to
   pub record Found (w : List ℕ) (p : Packer) : Type 0 where
-    pub start : p .start ≡ total (map length (packed w .0))
+    pub start : p .start ≡ sumOf (map length (packed w .0))
     pub used : p .used ≡ length (packed w .1)
     pub count : p .count ≡ length (map length (packed w .0))
     pub small : p .used ≤ 1500
@@ -92,7 +92,7 @@ module _ (t : Told) (acks : List ℕ) (mtu n held : ℕ) where
     pub idle : p .count ≡ 0 → p .start ≡ 0
 
   pub found : (waiting : List ℕ) (p : Packer) → mtu ≤ 1500 → length waiting ≡ 1500 → held ≤ 1500 → p ≡ sized mtu (holding held) (replicate n 24) → Found (take held waiting) p
-  unfolding sized total
+  unfolding sized sumOf
   found waiting p a l b e =
       let w = take held waiting in
       let d = length-take-le held waiting (omega arith) in
@@ -102,9 +102,9 @@ module _ (t : Told) (acks : List ℕ) (mtu n held : ℕ) where
       let r : length (packed w .1) ≡ ks .1 = pack-rest mtu w ps ∙ rw (d, ack-sizes t acks 0 n) in
       let c : p .count ≡ length (ks .0) = ap (λ (x : Packer). x .count) e ∙ zero-add _ in
       let u : p .used ≡ ks .1 = ap (λ (x : Packer). x .used) e in
-      let f : p .start ≡ total (ks .0) = ap (λ (x : Packer). x .start) e ∙ zero-add _ in
+      let f : p .start ≡ sumOf (ks .0) = ap (λ (x : Packer). x .start) e ∙ zero-add _ in
       record {
-        start = f ∙ ap total (sym s);
+        start = f ∙ ap sumOf (sym s);
         used = u ∙ sym r;
         count = c ∙ ap length (sym s);
         small = rw u (rest-most mtu 1500 a held (replicate n 24) b (each-alike 1500 24 n (omega arith)));
@@ -112,7 +112,7 @@ module _ (t : Told) (acks : List ℕ) (mtu n held : ℕ) where
         whole = λ h. let z = whole-rest mtu 24 held n (λ q. h (c ∙ q)) in (omega (arith, z .1, z .2), omega (arith, z .1, z .2));
         bytes = joined mtu w ps;
         lengths = s;
-        idle = λ z. f ∙ ap total (none (ks .0) (sym c ∙ z));
+        idle = λ z. f ∙ ap sumOf (none (ks .0) (sym c ∙ z));
       }
 
   -- ---- what is written

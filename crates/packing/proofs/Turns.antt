@@ -12,16 +12,16 @@ use borrow.Author.Tests.{lt-ltb, le-ltb}
 use Rattle.serial.specs.Branch.{pick}
 use Rattle.ring.specs.Records.{put}
 use Rattle.ring.proofs.Rows.{put-put}
-use Rattle.flushing.specs.Pack.{flat, total, writtenSize, goesSize, staysSize, packSizes, packAllSizes}
-use Rattle.flushing.proofs.Packing.{AtMost, flat-append, lengths-append, length-flat, total-append, sizes-total, all-total, rest-most}
+use Rattle.flushing.specs.Pack.{flat, sumOf, datagramSize, goesSize, staysSize, packSizes, packAllSizes}
+use Rattle.flushing.proofs.Packing.{AtMost, flat-append, map-append, length-flat, sum-append, sizes-sum, all-sum, rest-most}
 use Rattle.packing.specs.declared.packer.Packer.{Packer}
 use Rattle.packing.specs.Packer.{sized, closed}
 use Rattle.packing.proofs.Laying.{Laying, laying-start, laying-length, laying-fits, laying-on, laying-end}
 
 -- ---- one piece: it joins what waits; or nothing waits; or what waits goes out
 
-one-written : (n : ℕ) → (n ≡ 0 → ⊥) → writtenSize n ≡ n ∷ []
-unfolding writtenSize
+one-written : (n : ℕ) → (n ≡ 0 → ⊥) → datagramSize n ≡ n ∷ []
+unfolding datagramSize
 one-written zero e = absurd (e refl)
 one-written (suc n) e = refl
 
@@ -31,7 +31,7 @@ module _ (mtu : ℕ) (p : Packer) (k : ℕ) where
   joins-goes h = rw (le-ltb _ _ h)
 
   alone-goes : mtu < p .used + k → p .used ≡ 0 → goesSize mtu (p .used) k ≡ []
-  unfolding goesSize pick writtenSize
+  unfolding goesSize pick datagramSize
   alone-goes h e = rw (lt-ltb _ _ h, e)
 
   pub leaves-goes : mtu < p .used + k → (p .used ≡ 0 → ⊥) → goesSize mtu (p .used) k ≡ p .used ∷ []
@@ -48,16 +48,16 @@ module _ (mtu : ℕ) (p : Packer) (k : ℕ) where
 
   -- what the packer becomes, and what is put into the lengths
   pub joins : p .used + k ≤ mtu → (_≡_ {A = Packer} (record { start = p .start; used = p .used + k; count = p .count }) (sized mtu p (k ∷ []))) × (goesSize mtu (p .used) k ≡ [])
-  unfolding sized packSizes total
+  unfolding sized packSizes sumOf
   joins h = (sym (simp (joins-goes h, joins-stays h, add-zero)), joins-goes h)
 
   pub alone : mtu < p .used + k → p .used ≡ 0 → (_≡_ {A = Packer} (record { start = p .start; used = k; count = p .count }) (sized mtu p (k ∷ []))) × (goesSize mtu (p .used) k ≡ [])
-  unfolding sized packSizes total
+  unfolding sized packSizes sumOf
   alone h e = (sym (simp (alone-goes h e, leaves-stays h, add-zero)), alone-goes h e)
 
   pub leaves : mtu < p .used + k → (p .used ≡ 0 → ⊥)
       → (_≡_ {A = Packer} (record { start = p .start + p .used; used = k; count = p .count + 1 }) (sized mtu p (k ∷ []))) × (goesSize mtu (p .used) k ≡ p .used ∷ [])
-  unfolding sized packSizes total
+  unfolding sized packSizes sumOf
   leaves h e = (sym (simp (leaves-goes h e, leaves-stays h, add-zero)), leaves-goes h e)
 
 -- ---- the last bytes
@@ -67,15 +67,15 @@ same : (s u n s′ u′ n′ : ℕ) → s ≡ s′ → u ≡ u′ → n ≡ n′
 same s u n s′ u′ n′ a b c = cc
 
 module _ (p : Packer) where
-  pub closed-none : p .used ≡ 0 → (p ≡ closed p) × (writtenSize (p .used) ≡ [])
-  unfolding closed writtenSize
+  pub closed-none : p .used ≡ 0 → (p ≡ closed p) × (datagramSize (p .used) ≡ [])
+  unfolding closed datagramSize
   closed-none h =
       let a : p .start ≡ p .start + p .used = omega arith in
-      let b : p .count ≡ p .count + length (writtenSize (p .used)) = rw (h, add-zero) in
+      let b : p .count ≡ p .count + length (datagramSize (p .used)) = rw (h, add-zero) in
       (same _ _ _ _ _ _ a h b, rw h)
 
   pub closed-one : (p .used ≡ 0 → ⊥)
-      → (_≡_ {A = Packer} (record { start = p .start + p .used; used = 0; count = p .count + 1 }) (closed p)) × (writtenSize (p .used) ≡ p .used ∷ [])
+      → (_≡_ {A = Packer} (record { start = p .start + p .used; used = 0; count = p .count + 1 }) (closed p)) × (datagramSize (p .used) ≡ p .used ∷ [])
   unfolding closed
   closed-one h = let e = one-written (p .used) h in (rw e, e)
 
@@ -99,7 +99,7 @@ module _ (mtu : ℕ) where
   unfolding packAllSizes
   all-append n ks js = rw (cuts-append n ks js, rest-append n ks js, append-assoc)
 
-  pub all-none : (n : ℕ) → packAllSizes mtu n [] ≡ writtenSize n
+  pub all-none : (n : ℕ) → packAllSizes mtu n [] ≡ datagramSize n
   unfolding packAllSizes packSizes
   all-none n = refl
 
@@ -110,17 +110,17 @@ module _ (mtu : ℕ) where
 
   module _ (p : Packer) where
     pub sized-none : sized mtu p [] ≡ p
-    unfolding sized packSizes total
+    unfolding sized packSizes sumOf
     sized-none = simp add-zero
 
     pub sized-append : (ks js : List ℕ) → sized mtu (sized mtu p ks) js ≡ sized mtu p (ks ++ js)
     unfolding sized
-    sized-append ks js = simp (cuts-append (p .used) ks js, rest-append (p .used) ks js, total-append, length-append, add-assoc)
+    sized-append ks js = simp (cuts-append (p .used) ks js, rest-append (p .used) ks js, sum-append, length-append, add-assoc)
 
     -- its numbers
-    pub sized-sum : (ks : List ℕ) → sized mtu p ks .start + sized mtu p ks .used ≡ p .start + p .used + total ks
+    pub sized-sum : (ks : List ℕ) → sized mtu p ks .start + sized mtu p ks .used ≡ p .start + p .used + sumOf ks
     unfolding sized
-    sized-sum ks = omega (arith, sizes-total mtu (p .used) ks)
+    sized-sum ks = omega (arith, sizes-sum mtu (p .used) ks)
 
     pub sized-count : (ks : List ℕ) → sized mtu p ks .count ≡ p .count + length (packSizes mtu (p .used) ks .0)
     unfolding sized
@@ -131,9 +131,9 @@ module _ (mtu : ℕ) where
     sized-used ks = refl
 
     -- and once what waits then has gone out
-    pub closed-start : (ks : List ℕ) → closed (sized mtu p ks) .start ≡ p .start + total (packAllSizes mtu (p .used) ks)
+    pub closed-start : (ks : List ℕ) → closed (sized mtu p ks) .start ≡ p .start + sumOf (packAllSizes mtu (p .used) ks)
     unfolding closed
-    closed-start ks = omega (arith, sized-sum ks, all-total mtu (p .used) ks)
+    closed-start ks = omega (arith, sized-sum ks, all-sum mtu (p .used) ks)
 
     pub closed-count : (ks : List ℕ) → closed (sized mtu p ks) .count ≡ p .count + length (packAllSizes mtu (p .used) ks)
     unfolding closed packAllSizes
@@ -141,13 +141,13 @@ module _ (mtu : ℕ) where
 
     -- the lengths of the pieces, and then that of what waits
     pub put-all : (l : List ℕ) (ks : List ℕ) → p .count + length (packSizes mtu (p .used) ks .0) ≤ length l
-        → put (put l (p .count) (packSizes mtu (p .used) ks .0)) (sized mtu p ks .count) (writtenSize (sized mtu p ks .used)) ≡ put l (p .count) (packAllSizes mtu (p .used) ks)
+        → put (put l (p .count) (packSizes mtu (p .used) ks .0)) (sized mtu p ks .count) (datagramSize (sized mtu p ks .used)) ≡ put l (p .count) (packAllSizes mtu (p .used) ks)
     unfolding packAllSizes
     put-all l ks h = rw (sized-count ks, sized-used ks) (put-put l (p .count) (packSizes mtu (p .used) ks .0) _ h)
 
 -- a piece sends off at most one datagram
-few-written : (n : ℕ) → length (writtenSize n) ≤ 1
-unfolding writtenSize
+few-written : (n : ℕ) → length (datagramSize n) ≤ 1
+unfolding datagramSize
 few-written zero = omega arith
 few-written (suc n) = omega arith
 
@@ -155,7 +155,7 @@ step-few : (mtu n k : ℕ) → length (goesSize mtu n k) ≤ 1
 unfolding goesSize pick
 step-few mtu n k = of (ltb mtu (n + k))
   where
-    of : (t : Bool) → length (pick t (writtenSize n) []) ≤ 1
+    of : (t : Bool) → length (pick t (datagramSize n) []) ≤ 1
     of true = few-written n
     of false = omega arith
 
@@ -181,7 +181,7 @@ going-start mtu p ks h a = record { same = refl; small = h; each = a }
 
 module _ {mtu : ℕ} {p r : Packer} where
   -- the bytes still to come
-  pub going-sum : {ks : List ℕ} → Going mtu p ks r → p .start + p .used + total ks ≡ r .start + r .used
+  pub going-sum : {ks : List ℕ} → Going mtu p ks r → p .start + p .used + sumOf ks ≡ r .start + r .used
   going-sum {ks} g = sym (sized-sum mtu p ks) ∙ ap (λ (q : Packer). q .start + q .used) (g .same)
 
   -- the datagrams still to come: as many as there are cuts, and at most one for each piece
@@ -193,8 +193,8 @@ module _ {mtu : ℕ} {p r : Packer} where
 
   -- the next of them, by the packer p₀ that all came from
   pub going-within : {k : ℕ} {ks : List ℕ} (p₀ : Packer) (js : List ℕ) → Going mtu p (k ∷ ks) r → r ≡ sized mtu p₀ js
-      → (p .start + p .used + k ≤ p₀ .start + p₀ .used + total js) × (p .count ≤ p₀ .count + length js)
-  unfolding total
+      → (p .start + p .used + k ≤ p₀ .start + p₀ .used + sumOf js) × (p .count ≤ p₀ .count + length js)
+  unfolding sumOf
   going-within p₀ js g e =
       let s = ap (λ (q : Packer). q .start + q .used) e ∙ sized-sum mtu p₀ js in
       let c = ap (λ (q : Packer). q .count) e ∙ sized-count mtu p₀ js in
@@ -275,7 +275,7 @@ module _ {mtu : ℕ} {p : Packer} {out l : List ℕ} {r : Packer} {o m : List �
   packing-stage ps qs q b n g a e f h =
       let s = ap (λ (x : Packer). x .start + x .used) e ∙ sized-sum mtu p (map length ps) ∙ ap (λ (x : ℕ). p .start + p .used + x) (sym (length-flat ps)) in
       record {
-        cutting = cutting-stage (map length ps) (map length qs) q n (rw (lengths-append ps qs) at (g .cutting)) a e h;
+        cutting = cutting-stage (map length ps) (map length qs) q n (rw (map-append ps qs) at (g .cutting)) a e h;
         bytes = laying-on (flat ps) (flat qs) b (q .start + q .used) (rw (flat-append ps qs) at (g .bytes)) f s;
       }
 

@@ -5,7 +5,7 @@ use mathlib.Core.List.{List, [], _∷_, map}
 use Rattle.ring.specs.Records.{numberAt}
 use Rattle.wire.specs.Header.{headerBytes}
 use Rattle.flushing.specs.declared.headers.Told.{Told}
-use Rattle.flushing.specs.Pieces.{Ack, bytesOf, shortHeader, ackPieces, lastAck}
+use Rattle.flushing.specs.Pieces.{Ack, pieceBytes, bareHead, ackPieces, lastAck}
 
 -- pair i: the number of the push, then its time
 abbrev pub ackAt : List ℕ → ℕ → Ack
@@ -22,8 +22,8 @@ acksOf acks n = acksFrom acks 0 n
 
 -- the bytes of each
 abbrev pub ackBytes : Told → List Ack → List (List ℕ)
-ackBytes told acks = map bytesOf (ackPieces told acks)
+ackBytes told acks = map pieceBytes (ackPieces told acks)
 
 -- those of a probe
 abbrev pub probeHead : Told → ℕ → List Ack → List ℕ
-probeHead told cmd acks = headerBytes (shortHeader told cmd (lastAck acks .sn) (lastAck acks .ts))
+probeHead told cmd acks = headerBytes (bareHead told cmd (lastAck acks .sn) (lastAck acks .ts))

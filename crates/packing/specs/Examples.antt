@@ -7,8 +7,8 @@ use Rattle.serial.specs.Branch.{pick}
 use Rattle.ring.specs.Records.{put}
 use Rattle.wire.specs.Header.{headerBytes}
 use Rattle.flushing.specs.declared.headers.Told.{Told}
-use Rattle.flushing.specs.Pack.{flat, total, written, goes, stays, pack}
-use Rattle.flushing.specs.Pieces.{shortHeader}
+use Rattle.flushing.specs.Pack.{flat, sumOf, datagramOf, goes, stays, pack}
+use Rattle.flushing.specs.Pieces.{bareHead}
 use Rattle.flushing.specs.Rules.{exceeds}
 use Rattle.packing.specs.declared.«flush_ack».Packed.the-variants.{Sent, OutTooSmall}
 use Rattle.packing.specs.Acks.{acksFrom}
@@ -22,10 +22,10 @@ acks : List ℕ
 acks = 10 ∷ 50 ∷ 11 ∷ 51 ∷ 9 ∷ 9 ∷ []
 
 first : List ℕ
-first = headerBytes (shortHeader told 82 10 50)
+first = headerBytes (bareHead told 82 10 50)
 
 second : List ℕ
-second = headerBytes (shortHeader told 82 11 51)
+second = headerBytes (bareHead told 82 11 51)
 
 -- n bytes wait, in a list of 52
 waits : ℕ → List ℕ
@@ -34,23 +34,23 @@ waits n = replicate n 1 ++ replicate (52 - n) 0
 -- 24 bytes wait at mtu 50: the first ack joins them, and the second sends them off and stays; what lies past what is written stays
 sends : flushAckAt told 50 acks 2 24 (writing (waits 24) (replicate 50 5) (6 ∷ 6 ∷ []))
     ≡ (Sent 1 24, writing (second ++ replicate 28 0) (replicate 24 1 ++ first ++ replicate 2 5) (48 ∷ 6 ∷ []))
-unfolding told acks first second waits flushAckAt acksFrom headerBytes exceeds pack goes stays written flat total pick put
+unfolding told acks first second waits flushAckAt acksFrom headerBytes exceeds pack goes stays datagramOf flat sumOf pick put
 sends = refl
 
 -- no ack: nothing goes out, and nothing is asked of what is lent
 none : flushAckAt told 50 acks 0 24 (writing (waits 24) [] []) ≡ (Sent 0 24, writing (waits 24) [] [])
-unfolding told acks waits flushAckAt acksFrom exceeds pack flat total pick put
+unfolding told acks waits flushAckAt acksFrom exceeds pack flat sumOf pick put
 none = refl
 
 -- exactly full: 26 bytes and an ack are 50, and stay; one byte more sends 27 off
 full : (flushAckAt told 50 acks 1 26 (writing (waits 26) [] []) ≡ (Sent 0 50, writing (replicate 26 1 ++ first ++ replicate 2 0) [] []))
     × (flushAckAt told 50 acks 1 27 (writing (waits 27) (replicate 27 5) (6 ∷ []))
     ≡ (Sent 1 24, writing (first ++ replicate 3 1 ++ replicate 25 0) (replicate 27 1) (27 ∷ [])))
-unfolding told acks first waits flushAckAt acksFrom headerBytes exceeds pack goes stays written flat total pick put
+unfolding told acks first waits flushAckAt acksFrom headerBytes exceeds pack goes stays datagramOf flat sumOf pick put
 full = (refl, refl)
 
 -- 13: 48 bytes into 47, and a datagram into no length
 refuses : (flushAckAt told 50 acks 2 24 (writing (waits 24) (replicate 47 5) (6 ∷ [])) ≡ (OutTooSmall, writing (waits 24) (replicate 47 5) (6 ∷ [])))
     × (flushAckAt told 50 acks 2 24 (writing (waits 24) (replicate 48 5) []) ≡ (OutTooSmall, writing (waits 24) (replicate 48 5) []))
-unfolding told acks waits flushAckAt acksFrom headerBytes exceeds pack goes stays written flat total pick put
+unfolding told acks waits flushAckAt acksFrom headerBytes exceeds pack goes stays datagramOf flat sumOf pick put
 refuses = (refl, refl)

@@ -2,7 +2,7 @@
 use Prim.Native.Nat.{ℕ, _+_}
 use mathlib.Core.List.{List}
 use lib.ListN.{length}
-use Rattle.flushing.specs.Pack.{total, writtenSize, packSizes}
+use Rattle.flushing.specs.Pack.{sumOf, datagramSize, packSizes}
 use Rattle.packing.specs.declared.packer.Packer.{Packer}
 
 -- before any piece: so many bytes wait
@@ -13,8 +13,8 @@ holding held = record { start = 0; used = held; count = 0 }
 unfoldable pub sized : ℕ → Packer → List ℕ → Packer
 sized mtu p ks =
     let r = packSizes mtu (p .used) ks in
-    record { start = p .start + total (r .0); used = r .1; count = p .count + length (r .0) }
+    record { start = p .start + sumOf (r .0); used = r .1; count = p .count + length (r .0) }
 
 -- once what waits has gone out
 unfoldable pub closed : Packer → Packer
-closed p = record { start = p .start + p .used; used = 0; count = p .count + length (writtenSize (p .used)) }
+closed p = record { start = p .start + p .used; used = 0; count = p .count + length (datagramSize (p .used)) }

@@ -59,7 +59,7 @@ pub fn put_acks(told: Told, acks: &[u32], from: usize, to: usize, dst: &mut [u8]
     while i < to {
         let sn = ring::number_at(acks, 2, i, 0);
         let ts = ring::number_at(acks, 2, i, 1);
-        put_header(told.short_header(wire::ACK, sn, ts), dst, end);
+        put_header(told.bare_head(wire::ACK, sn, ts), dst, end);
         end += wire::OVERHEAD;
         i += 1;
     }

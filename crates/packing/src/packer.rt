@@ -4,7 +4,7 @@ ghost use Prim.Native.Nat.{_+_, _≤_, _<_, _^_};
 ghost use mathlib.Core.List.{_∷_, []};
 ghost use lib.ListN.{length};
 ghost use Rattle.ring.specs.Records.{put};
-ghost use Rattle.flushing.specs.Pack.{goesSize, writtenSize};
+ghost use Rattle.flushing.specs.Pack.{goesSize, datagramSize};
 ghost use Rattle.packing.specs.Packer.{holding, sized, closed};
 
 // The bytes that have gone out; the bytes of the datagram that is being filled; the datagrams that have gone out.
@@ -112,9 +112,9 @@ impl Packer {
     pub fn finish(self, lengths: &mut [u16]) -> Packer
         requires { ⌜ self .start + self .used < 2 ^ 32 ⌝ }
         requires { ⌜ self .used < 2 ^ 16 ⌝ }
-        requires { ⌜ self .count + length (writtenSize (self .used)) ≤ length (now lengths) ⌝ }
+        requires { ⌜ self .count + length (datagramSize (self .used)) ≤ length (now lengths) ⌝ }
         ensures { λ r. ⌜ r ≡ closed self ⌝ }
-        ensures { λ _. ⌜ now (lengths .exit) ≡ put (now (lengths .entry)) (self .count) (writtenSize (self .used)) ⌝ }
+        ensures { λ _. ⌜ now (lengths .exit) ≡ put (now (lengths .entry)) (self .count) (datagramSize (self .used)) ⌝ }
     {
         let start = self.start;
         let used = self.used;

@@ -29,11 +29,11 @@ pub fn probe_head(told: Told, acks: &[u32], n: usize, cmd: u8) -> [u8; 24]
     ensures { λ r. ⌜ r ≡ probeHead told cmd (acksOf (now (acks .entry)) n) ⌝ }
 {
     if n == 0 {
-        return told.short_header(cmd, 0, 0).bytes();
+        return told.bare_head(cmd, 0, 0).bytes();
     }
     let sn = ring::number_at(acks, 2, n - 1, 0);
     let ts = ring::number_at(acks, 2, n - 1, 1);
-    told.short_header(cmd, sn, ts).bytes()
+    told.bare_head(cmd, sn, ts).bytes()
 }
 
 // A probe with that head, if it is to go out: its bytes behind those that are there, and the length of the datagram that goes out before it, if one
