@@ -19,9 +19,9 @@ use Rattle.block.specs.Sizes.{Within}
 use Rattle.block.specs.WellFormed.{ProbeFits}
 use Rattle.flushing.specs.Probing.{askBit, longerWait, armed, probed, probeWndSize}
 use Rattle.flushing.specs.Pack.{flat, packSizes, packAllSizes}
-use Rattle.flushing.specs.Pieces.{Ack, Piece, bytesOf, sizeOf, ackPieces}
+use Rattle.flushing.specs.Pieces.{Ack, Piece, pieceBytes, pieceSize, ackPieces}
 use Rattle.flushing.specs.declared.headers.Told.{Told}
-use Rattle.flushing.specs.Rules.{Outgoing, toldBy, flushedAck, pieces, flushed}
+use Rattle.flushing.specs.Rules.{Outgoing, toldBy, flushedAck, piecesOf, flushed}
 use Rattle.flushing.proofs.Packing.{pack-sizes, joined, all-sizes, all-joined}
 
 -- ---- pieces
@@ -31,14 +31,14 @@ pub header-size : (h : Header) → length (headerBytes h) ≡ 24
 unfolding headerBytes
 header-size h = refl
 
-pub piece-size : (p : Piece) → length (bytesOf p) ≡ sizeOf p
+pub piece-size : (p : Piece) → length (pieceBytes p) ≡ pieceSize p
 piece-size p = length-append (headerBytes (p .header)) (p .payload) ∙ rw (header-size (p .header))
 
-pub piece-sizes : (ps : List Piece) → map length (map bytesOf ps) ≡ map sizeOf ps
+pub piece-sizes : (ps : List Piece) → map length (map pieceBytes ps) ≡ map pieceSize ps
 piece-sizes [] = refl
 piece-sizes (p ∷ ps) = rw (piece-size p, piece-sizes ps)
 
-pub ack-piece-sizes : (t : Told) (acks : List Ack) → map sizeOf (ackPieces t acks) ≡ replicate (length acks) 24
+pub ack-piece-sizes : (t : Told) (acks : List Ack) → map pieceSize (ackPieces t acks) ≡ replicate (length acks) 24
 ack-piece-sizes t [] = refl
 ack-piece-sizes t (a ∷ acks) = rw (ack-piece-sizes t acks)
 
@@ -48,20 +48,20 @@ module _ (o : Outgoing) where
   pub ack-sizes : map length (flushedAck o .datagrams) ≡ packSizes (o .settings .mtu) (length (o .waiting)) (replicate (length (o .acks)) 24) .0
   unfolding flushedAck
   ack-sizes =
-      pack-sizes (o .settings .mtu) (o .waiting) (map bytesOf (ackPieces (toldBy o) (o .acks)))
+      pack-sizes (o .settings .mtu) (o .waiting) (map pieceBytes (ackPieces (toldBy o) (o .acks)))
       ∙ rw (piece-sizes (ackPieces (toldBy o) (o .acks)), ack-piece-sizes (toldBy o) (o .acks))
 
-  pub ack-joined : flat (flushedAck o .datagrams) ++ flushedAck o .side .waiting ≡ o .waiting ++ flat (map bytesOf (ackPieces (toldBy o) (o .acks)))
+  pub ack-joined : flat (flushedAck o .datagrams) ++ flushedAck o .after .waiting ≡ o .waiting ++ flat (map pieceBytes (ackPieces (toldBy o) (o .acks)))
   unfolding flushedAck
-  ack-joined = joined (o .settings .mtu) (o .waiting) (map bytesOf (ackPieces (toldBy o) (o .acks)))
+  ack-joined = joined (o .settings .mtu) (o .waiting) (map pieceBytes (ackPieces (toldBy o) (o .acks)))
 
-  pub flush-sizes : map length (flushed o .datagrams) ≡ packAllSizes (o .settings .mtu) (length (o .waiting)) (map sizeOf (pieces o))
+  pub flush-sizes : map length (flushed o .datagrams) ≡ packAllSizes (o .settings .mtu) (length (o .waiting)) (map pieceSize (piecesOf o))
   unfolding flushed
-  flush-sizes = all-sizes (o .settings .mtu) (o .waiting) (map bytesOf (pieces o)) ∙ rw (piece-sizes (pieces o))
+  flush-sizes = all-sizes (o .settings .mtu) (o .waiting) (map pieceBytes (piecesOf o)) ∙ rw (piece-sizes (piecesOf o))
 
-  pub flush-joined : flat (flushed o .datagrams) ≡ o .waiting ++ flat (map bytesOf (pieces o))
+  pub flush-joined : flat (flushed o .datagrams) ≡ o .waiting ++ flat (map pieceBytes (piecesOf o))
   unfolding flushed
-  flush-joined = all-joined (o .settings .mtu) (o .waiting) (map bytesOf (pieces o))
+  flush-joined = all-joined (o .settings .mtu) (o .waiting) (map pieceBytes (piecesOf o))
 
 -- ---- the probe stays well formed
 
