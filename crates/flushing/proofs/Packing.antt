@@ -4,7 +4,7 @@ use native.Mathlib.Nat.{add-assoc}
 use native.Mathlib.Omega.{arith}
 use mathlib.Core.Path.{_≡_, refl, sym, ap, _∙_}
 use mathlib.Core.Bool.{Bool, true, false}
-use mathlib.Core.List.{List, [], _∷_, _++_, map, append-assoc, append-nil}
+use mathlib.Core.List.{List, [], _∷_, _++_, map, map-append, append-assoc, append-nil}
 use lib.ListN.{length, length-append}
 use lib.Dec.{ltb}
 use borrow.Author.Tests.{ltb-false}
@@ -18,10 +18,6 @@ module _ {A : Type 0} where
   unfolding flat
   flat-append [] y = refl
   flat-append (p ∷ x) y = ap (λ (l : List A). p ++ l) (flat-append x y) ∙ sym (append-assoc p (flat x) (flat y))
-
-  pub lengths-append : (x y : List (List A)) → map length (x ++ y) ≡ map length x ++ map length y
-  lengths-append [] y = refl
-  lengths-append (p ∷ x) y = ap (λ (l : List ℕ). length p ∷ l) (lengths-append x y)
 
   pub length-flat : (ps : List (List A)) → length (flat ps) ≡ sumOf (map length ps)
   unfolding flat sumOf
@@ -63,7 +59,7 @@ module _ {A : Type 0} where
     pub pack-sizes : (w : List A) (ps : List (List A)) → map length (pack mtu w ps .0) ≡ packSizes mtu (length w) (map length ps) .0
     unfolding pack packSizes
     pack-sizes w [] = refl
-    pack-sizes w (p ∷ ps) = lengths-append (goes mtu w p) _ ∙ rw (goes-size, pack-sizes (stays mtu w p) ps, stays-size)
+    pack-sizes w (p ∷ ps) = map-append length (goes mtu w p) _ ∙ rw (goes-size, pack-sizes (stays mtu w p) ps, stays-size)
 
     pub pack-rest : (w : List A) (ps : List (List A)) → length (pack mtu w ps .1) ≡ packSizes mtu (length w) (map length ps) .1
     unfolding pack packSizes
@@ -93,7 +89,7 @@ module _ {A : Type 0} where
       pub all-sizes : map length (packAll mtu w ps) ≡ packAllSizes mtu (length w) (map length ps)
       unfolding packAll packAllSizes
       all-sizes =
-          lengths-append (pack mtu w ps .0) (datagramOf (pack mtu w ps .1))
+          map-append length (pack mtu w ps .0) (datagramOf (pack mtu w ps .1))
           ∙ rw (datagram-size (pack mtu w ps .1), pack-sizes w ps, pack-rest w ps)
 
 -- ---- sizes: their sum, and the most

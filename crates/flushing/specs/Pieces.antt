@@ -3,7 +3,7 @@
 use Prim.Native.Nat.{ℕ, _+_, _%_, _^_}
 use mathlib.Core.Bool.{Bool}
 use mathlib.Core.List.{List, [], _∷_, _++_, map}
-use lib.ListN.{length}
+use lib.ListN.{length, replicate}
 use Rattle.serial.specs.Branch.{pick}
 use Rattle.wire.specs.declared.Header.{Header}
 use Rattle.wire.specs.Header.{headerBytes}
@@ -103,3 +103,22 @@ tallied deadLink p (s ∷ l) t =
 -- acks, ask, tell, and the segments in flight that go out
 abbrev pub flushPieces : Told → List Ack → ℕ → Pace → List Segment → List Piece
 flushPieces t acks bits p flying = ackPieces t acks ++ (probePieces t bits acks ++ duePieces t p flying)
+
+-- ---- their sizes alone, as they are found before anything changes
+
+abbrev pub segmentSize : Segment → ℕ
+segmentSize s = 24 + length (s .payload)
+
+-- of an ask and a tell
+unfoldable pub probeSizes : ℕ → List ℕ
+probeSizes bits = pick (askSet bits) (24 ∷ []) [] ++ pick (tellSet bits) (24 ∷ []) []
+
+-- of those in flight that go out
+unfoldable pub dueSizes : Pace → List Segment → List ℕ
+dueSizes p [] = []
+dueSizes p (s ∷ l) = pick (goesOut (dueOf p (recordOf s))) (segmentSize s ∷ dueSizes p l) (dueSizes p l)
+
+-- of so many acks, the probe, those in flight, and those that are about to leave the queue, which all go out. Law: `flush-piece-sizes` of proofs/Calls
+abbrev pub flushSizes : ℕ → ℕ → Pace → List Segment → List Segment → List ℕ
+flushSizes acks bits p flying leaving =
+    replicate acks 24 ++ (probeSizes bits ++ (dueSizes p flying ++ map segmentSize leaving))
