@@ -12,7 +12,7 @@ use Rattle.block.specs.declared.clock.Clock.{Clock}
 use Rattle.block.specs.declared.congestion.Congestion.{Congestion}
 use Rattle.block.specs.declared.probe.Probe.{Probe}
 use Rattle.block.specs.declared.refusal.Refusal.the-variants.{NeedUpdate, OutTooSmall}
-use Rattle.block.specs.declared.refusal.Answer.the-variants.{Refused}
+use Rattle.block.specs.declared.refusal.Answer.the-variants.{Done, Refused}
 use Rattle.block.specs.Fresh.{freshSettings, freshClock, freshCongestion, freshProbe}
 use Rattle.sending.specs.Rules.{Segment, Sending}
 use Rattle.sending.specs.Send.{verdict, fills, joins, pieces, needed, cut, lastOf, filled, queued, leftBy, send}
@@ -226,6 +226,21 @@ head conv cmd wnd ts sn una len = headerBytes (record { conv = conv; cmd = cmd; 
 at55 : List Ack
 at55 = record { sn = 0; ts = 55 } ∷ []
 
+-- a segment of one byte that waits
+waitsOne : Segment
+waitsOne = record { conv = 0; frg = 0; sn = 0; ts = 0; resendts = 0; rto = 0; fastack = 0; xmit = 0; payload = 98 ∷ [] }
+
+-- a first update that is refused leaves the block without one
+unready : Outgoing
+unready = block (quiet 1) (freshClock 100) freshCongestion freshProbe 0 0 (record { una = 0; next = 0; flying = []; waiting = waitsOne ∷ [] }) []
+
+unmoved : (updateRule (narrow 24 1) 7 unready ≡ record { answer = Refused OutTooSmall; after = unready; datagrams = [] })
+    × (updateRule (narrow 25 1) 7 unready .answer ≡ Done)
+    × (updateRule (narrow 25 1) 7 unready .datagrams ≡ (head 1 81 128 7 0 0 1 ++ (98 ∷ [])) ∷ [])
+    × (flushRule (narrow 25 1) unready .answer ≡ Refused NeedUpdate)
+unfolding narrow block quiet clock congestion waitsOne unready head updateRule onceUpdated unlessExceeding exceeds sumOf ticked dueFrom restarted far signed32 nextFlush flushedAck flushed windowOf probeWndSize probed askBit leaving movedOut numberedFrom paceOf rtominOf resentOf duePieces dueOf resendsFast sentAs longerRto flownBy tallied withSent dies congestionAfter resentFast timedOut atLeastOne packAll pack goes stays datagramOf pick headerBytes probePiece lastAckOf
+unmoved = (refl, refl, refl, refl)
+
 -- an ack of a push at 55, and a tell: "An ask or tell carries sn and ts of the last ack of the same flush, else 0", so not of one that a flush_ack put
 -- out before. Its bytes wait, an update that is not due leaves them, and check does not see them
 told : Outgoing
@@ -265,12 +280,9 @@ bytes : flushRule room (record {
 unfolding room blank block congestion clock quiet updated head at55 told acked updateRule onceUpdated unlessExceeding exceeds sumOf ticked dueFrom restarted far signed32 nextFlush flushedAck flushed windowOf probeWndSize probed askBit leaving movedOut numberedFrom paceOf rtominOf resentOf duePieces dueOf resendsFast sentAs longerRto flownBy tallied withSent dies congestionAfter resentFast timedOut atLeastOne packAll pack goes stays datagramOf pick headerBytes probePiece lastAckOf
 bytes = refl
 
--- a segment of one byte in flight, sent at 10 under this conv, and one that waits
+-- a segment of one byte in flight, sent at 10 under this conv
 flies : ℕ → ℕ → Segment
 flies conv sn = record { conv = conv; frg = 0; sn = sn; ts = 10; resendts = 210; rto = 200; fastack = 0; xmit = 1; payload = 97 ∷ [] }
-
-waitsOne : Segment
-waitsOne = record { conv = 0; frg = 0; sn = 0; ts = 0; resendts = 0; rto = 0; fastack = 0; xmit = 0; payload = 98 ∷ [] }
 
 -- a resend carries the conv that its segment got when first sent; its ts is now. The block counts both timeouts
 both : Outgoing
