@@ -21,7 +21,7 @@ use Rattle.block.specs.Sizes.{Within}
 use Rattle.block.specs.WellFormed.{ProbeFits}
 use Rattle.flushing.specs.Probing.{askSet, tellSet, askBit, longerWait, armed, probed, probeWndSize}
 use Rattle.flushing.specs.Pack.{flat, packSizes, packAllSizes}
-use Rattle.flushing.specs.Pieces.{Ack, Piece, pieceBytes, pieceSize, barePiece, pushPiece, lastAck, recordOf, sentOut, numberedFrom, ackPieces, probePiece, probePieces, duePieces, segmentSize, probeSizes, dueSizes, flushSizes}
+use Rattle.flushing.specs.Pieces.{Ack, Piece, pieceBytes, pieceSize, pushPiece, recordOf, sentOut, numberedFrom, ackPieces, probePiece, probePieces, duePieces, segmentSize, probeSizes, dueSizes, flushSizes}
 use Rattle.flushing.specs.declared.headers.Told.{Told}
 use Rattle.flushing.specs.Windows.{leaving}
 use Rattle.flushing.specs.Due.{goesOut, dueOf}
@@ -54,7 +54,7 @@ three-sizes a b c x y z d e f =
 
 one-probe : (t : Told) (cmd : ℕ) (set : Bool) (acks : List Ack) → map pieceSize (probePiece t cmd set acks) ≡ pick set (24 ∷ []) []
 unfolding probePiece
-one-probe t cmd set acks = pick-ap (map pieceSize) set (barePiece t cmd (lastAck acks .sn) (lastAck acks .ts) ∷ []) []
+one-probe t cmd set acks = pick-ap (map pieceSize) set _ []
 
 probe-sizes : (t : Told) (bits : ℕ) (acks : List Ack) → map pieceSize (probePieces t bits acks) ≡ probeSizes bits
 unfolding probeSizes
@@ -119,6 +119,11 @@ module _ (o : Outgoing) where
       (due-sizes (toldBy o) (pace o) (sent o .flying)
       ∙ due-append (pace o) (o .sending .flying) fresh
       ∙ ap (λ (l : List ℕ). dueSizes (pace o) (o .sending .flying) ++ l) (fresh-sizes (pace o) _ _ _ _ (take leaves (o .sending .waiting))))
+
+  -- so that 13 is decided before anything changes
+  pub flush-found : map length (flushed o .datagrams)
+      ≡ packAllSizes (o .settings .mtu) (length (o .waiting)) (flushSizes (length (o .acks)) (probing o .bits) (pace o) (o .sending .flying) (take leaves (o .sending .waiting)))
+  flush-found = flush-sizes ∙ ap (packAllSizes (o .settings .mtu) (length (o .waiting))) flush-piece-sizes
 
 -- ---- the probe stays well formed
 
