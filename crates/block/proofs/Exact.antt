@@ -3,6 +3,8 @@ use Prim.Native.Nat.{ℕ, _+_, _*_, _≤_, _<_}
 use mathlib.Core.Path.{_≡_, refl}
 use mathlib.Core.Bool.{Bool, true, false, _&&_, _||_}
 use mathlib.Core.Logic.{_⊎_, inl, inr, ⊎-elim}
+use mathlib.Core.List.{List}
+use lib.ListN.{length}
 use native.Mathlib.Omega.{arith}
 use lib.Dec.{leb, ltb, eqb}
 use borrow.Author.Tests.{leb-true, le-leb, ltb-true, lt-ltb, eqb-true, eq-eqb}
@@ -13,7 +15,7 @@ use Rattle.block.specs.declared.acklist.AckList.{AckList}
 use Rattle.block.specs.declared.sender.Sender.{Sender}
 use Rattle.block.specs.declared.Kcp.{Kcp}
 use Rattle.block.specs.Sizes.{within, Within, mssOf, pairs, ringSizes, RingSizes, ackSizes, AckSizes}
-use Rattle.block.specs.WellFormed.{settingsFit, SettingsFit, probeFits, ProbeFits, receiverFits, ReceiverFits, senderFits, SenderFits, acklistFits, AckListFits, ownNumbers, OwnNumbers, receiveNumbers, ReceiveNumbers, sendNumbers, SendNumbers}
+use Rattle.block.specs.WellFormed.{settingsFit, SettingsFit, probeFits, ProbeFits, receiverFits, ReceiverFits, senderFits, SenderFits, acklistFits, AckListFits, ownNumbers, OwnNumbers, receiveNumbers, ReceiveNumbers, sendNumbers, SendNumbers, ackLent}
 
 -- the test t is true exactly when P holds
 pub record Exactly (t : Bool) (P : Type 0) : Type 0 where
@@ -92,6 +94,10 @@ sender-fits s =
     (exactly-both (exactly-le (s .ring .reach + s .ring .unsent) 1024)
     (exactly-both (exactly-both (exactly-le (s .ring .flying) (s .ring .reach)) (exactly-either (exactly-eq (s .ring .reach) 0) (exactly-lt 0 (s .ring .flying))))
     (exactly-lt (s .ring .start) 1024)))
+
+pub acks-exactly : (a : AckList) (acks waiting : List ℕ) → Exactly (ackLent a acks waiting) (AckSizes (length acks) (length waiting) × (a .acks ≤ pairs (length acks)))
+unfolding ackLent
+acks-exactly a acks waiting = exactly-both (ack-sizes (length acks) (length waiting)) (exactly-le (a .acks) (pairs (length acks)))
 
 pub acklist-fits : (a : AckList) → Exactly (acklistFits a) (AckListFits a)
 unfolding acklistFits

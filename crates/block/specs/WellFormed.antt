@@ -7,6 +7,8 @@ use Prim.Native.Nat.{ℕ, _+_, _*_, _≤_, _<_}
 use mathlib.Core.Path.{_≡_}
 use mathlib.Core.Bool.{Bool, _&&_, _||_}
 use mathlib.Core.Logic.{_⊎_}
+use mathlib.Core.List.{List}
+use lib.ListN.{length}
 use lib.Dec.{leb, ltb, eqb}
 use Rattle.block.specs.declared.settings.Settings.{Settings}
 use Rattle.block.specs.declared.probe.Probe.{Probe}
@@ -14,7 +16,7 @@ use Rattle.block.specs.declared.receiver.Receiver.{Receiver}
 use Rattle.block.specs.declared.acklist.AckList.{AckList}
 use Rattle.block.specs.declared.sender.Sender.{Sender}
 use Rattle.block.specs.declared.Kcp.{Kcp}
-use Rattle.block.specs.Sizes.{within, Within, mtuSize, mssOf}
+use Rattle.block.specs.Sizes.{within, Within, mtuSize, mssOf, ackSizes, pairs}
 
 -- ---- what the block's numbers alone decide
 
@@ -99,3 +101,7 @@ pub record SendNumbers (slots : ℕ) (s : Sender) : Type 0 where
 -- "at most A acks"
 abbrev pub ackNumbers : ℕ → AckList → Bool
 ackNumbers pairs a = leb (a .acks) pairs
+
+-- the limits of the ack memory, and "at most A acks"
+unfoldable pub ackLent : AckList → List ℕ → List ℕ → Bool
+ackLent a acks waiting = ackSizes (length acks) (length waiting) && ackNumbers (pairs (length acks)) a

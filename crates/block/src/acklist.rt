@@ -1,9 +1,10 @@
 // How much of the ack memory is in use: the pairs of the ack list, and the bytes that wait.
 ghost use mathlib.Core.Path.{_≡_};
 ghost use Rattle.block.specs.Fresh.{freshAckList};
-ghost use Rattle.block.specs.WellFormed.{acklistFits, ackNumbers};
+ghost use Rattle.block.specs.WellFormed.{acklistFits, ackNumbers, ackLent};
 use crate::Kcp;
 use crate::both;
+use crate::sizes::ack_sizes;
 use crate::wide;
 
 pub struct AckList {
@@ -37,5 +38,15 @@ impl AckList {
         ensures { λ r. ⌜ r ≡ ackNumbers pairs self ⌝ }
     {
         wide(self.acks) <= pairs
+    }
+
+    // Whether an ack memory is within the limits and holds the acks that are counted.
+    pub fn lent_fits(self, acks: &[u32], waiting: &[u8]) -> bool
+        ensures { λ r. ⌜ r ≡ ackLent self (now (acks .entry)) (now (waiting .entry)) ⌝ }
+    {
+        if ack_sizes(acks.len(), waiting.len()) {
+            return self.ack_numbers(acks.len() / Kcp::ACK_PAIR);
+        }
+        false
     }
 }

@@ -17,9 +17,9 @@ use Rattle.flushing.specs.declared.due.Pace.{Pace}
 use Rattle.flushing.specs.declared.due.Due.{Due}
 use Rattle.flushing.specs.declared.due.Due.the-variants.{Idle, Fresh, TimedOut, Fast}
 use Rattle.flushing.specs.declared.due.Tally.{Tally}
-use Rattle.flushing.specs.Windows.{halved, withCwnd, resentFast, timedOut, opened, congestionAfter}
+use Rattle.flushing.specs.Windows.{halved, withCwnd, resentFast, timedOut, atLeastOne, congestionAfter}
 use Rattle.flushing.specs.Probing.{askBit, longerWait, armed}
-use Rattle.flushing.specs.Due.{resendsFast, dueOf, longerRto, again, sentAs, flownBy, dies, counted}
+use Rattle.flushing.specs.Due.{resendsFast, dueOf, longerRto, again, sentAs, flownBy, dies, withSent}
 use Rattle.flushing.specs.Clocks.{restarted, dueFrom, nextFlush, ticked, tmFlush}
 
 -- ---- the window of congestion
@@ -30,20 +30,20 @@ module _ (mss : ℕ) (c : Congestion) where
   unfolding resentFast
   fast-resent inflight resent low half cast cwnd incr r l h k w i e = e ∙ rw (i, w, k, h, l)
 
-  pub opened-none : (r : Congestion) → c .cwnd < 1 → r ≡ withCwnd c (c .ssthresh) 1 mss → r ≡ opened mss c
-  unfolding opened pick
-  opened-none r h e = e ∙ rw (lt-ltb (c .cwnd) 1 h)
+  pub one-opened : (r : Congestion) → c .cwnd < 1 → r ≡ withCwnd c (c .ssthresh) 1 mss → r ≡ atLeastOne mss c
+  unfolding atLeastOne pick
+  one-opened r h e = e ∙ rw (lt-ltb (c .cwnd) 1 h)
 
-  pub opened-some : 1 ≤ c .cwnd → c ≡ opened mss c
-  unfolding opened pick
-  opened-some h = rw (le-ltb (c .cwnd) 1 h)
+  pub one-kept : 1 ≤ c .cwnd → c ≡ atLeastOne mss c
+  unfolding atLeastOne pick
+  one-kept h = rw (le-ltb (c .cwnd) 1 h)
 
 module _ (mss inflight resent window : ℕ) (change lost : Bool) (c d : Congestion) (a : d ≡ pick change (resentFast mss inflight resent c) c) where
-  pub after-loss : (t r : Congestion) → lost ≡ true → t ≡ timedOut mss window d → r ≡ opened mss t → r ≡ congestionAfter mss inflight resent window change lost c
+  pub after-loss : (t r : Congestion) → lost ≡ true → t ≡ timedOut mss window d → r ≡ atLeastOne mss t → r ≡ congestionAfter mss inflight resent window change lost c
   unfolding congestionAfter pick
   after-loss t r h e f = f ∙ rw (e, a, h)
 
-  pub after-none : (r : Congestion) → lost ≡ false → r ≡ opened mss d → r ≡ congestionAfter mss inflight resent window change lost c
+  pub after-none : (r : Congestion) → lost ≡ false → r ≡ atLeastOne mss d → r ≡ congestionAfter mss inflight resent window change lost c
   unfolding congestionAfter pick
   after-none r h f = f ∙ rw (a, h)
 
@@ -91,22 +91,22 @@ module _ (p : Pace) (r : Record) where
 -- ---- what is counted of it
 
 module _ (deadLink xmit : ℕ) (t : Tally) (due : Due) where
-  pub counted-idle : due ≡ Idle → t ≡ counted deadLink due xmit t
-  unfolding counted
-  counted-idle e = rw e
+  pub sent-none : due ≡ Idle → t ≡ withSent deadLink due xmit t
+  unfolding withSent
+  sent-none e = rw e
 
   module _ (dead : Bool) (d : dead ≡ dies (t .dead) deadLink xmit) where
-    pub counted-fresh : due ≡ Fresh → record { xmit = t .xmit; dead = dead; lost = t .lost; change = t .change } ≡ counted deadLink due xmit t
-    unfolding counted
-    counted-fresh e = rw (e, d)
+    pub fresh-sent : due ≡ Fresh → record { xmit = t .xmit; dead = dead; lost = t .lost; change = t .change } ≡ withSent deadLink due xmit t
+    unfolding withSent
+    fresh-sent e = rw (e, d)
 
-    pub counted-late : (more : ℕ) → due ≡ TimedOut → more ≡ add32 (t .xmit) 1 → record { xmit = more; dead = dead; lost = true; change = t .change } ≡ counted deadLink due xmit t
-    unfolding counted
-    counted-late more e f = rw (e, d, f)
+    pub late-sent : (more : ℕ) → due ≡ TimedOut → more ≡ add32 (t .xmit) 1 → record { xmit = more; dead = dead; lost = true; change = t .change } ≡ withSent deadLink due xmit t
+    unfolding withSent
+    late-sent more e f = rw (e, d, f)
 
-    pub counted-fast : due ≡ Fast → record { xmit = t .xmit; dead = dead; lost = t .lost; change = true } ≡ counted deadLink due xmit t
-    unfolding counted
-    counted-fast e = rw (e, d)
+    pub fast-sent : due ≡ Fast → record { xmit = t .xmit; dead = dead; lost = t .lost; change = true } ≡ withSent deadLink due xmit t
+    unfolding withSent
+    fast-sent e = rw (e, d)
 
 -- ---- the probe
 

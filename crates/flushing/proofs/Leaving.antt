@@ -67,3 +67,12 @@ module _ (limit next waiting between : ℕ) (l : limit < 2 ^ 32) (n : next < 2 ^
 
   pub leaving-none : 2 ^ 31 < between → 0 ≡ leaving limit next waiting
   leaving-none h = sym (leaving-is limit next waiting l n ∙ rw (← e) (over between waiting h))
+
+-- no more leave than wait
+pub leaving-most : (limit next waiting : ℕ) → leaving limit next waiting ≤ waiting
+leaving-most limit next zero = omega (arith, none-left limit next)
+leaving-most limit next (suc waiting) =
+    ⊎-elim
+    (λ h. omega (arith, stops limit next waiting h))
+    (λ h. omega (arith, steps limit next waiting h, leaving-most limit (add32 next 1) waiting))
+    (side (sub32 next limit) (2 ^ 31))

@@ -3,3 +3,4 @@ pub mod Leaving
 pub mod Far
 pub mod Packing
 pub mod Calls
+pub mod Waits

@@ -4,12 +4,12 @@ use native.Mathlib.Nat.{add-assoc}
 use native.Mathlib.Omega.{arith}
 use mathlib.Core.Path.{_≡_, refl, sym, ap, _∙_}
 use mathlib.Core.Bool.{Bool, true, false}
-use mathlib.Core.List.{List, [], _∷_, _++_, map, append-assoc, append-nil}
+use mathlib.Core.List.{List, [], _∷_, _++_, map, map-append, append-assoc, append-nil}
 use lib.ListN.{length, length-append}
 use lib.Dec.{ltb}
 use borrow.Author.Tests.{ltb-false}
 use Rattle.serial.specs.Branch.{pick, pick-ap}
-use Rattle.flushing.specs.Pack.{flat, total, written, goes, stays, pack, packAll, writtenSize, goesSize, staysSize, packSizes, packAllSizes}
+use Rattle.flushing.specs.Pack.{flat, sumOf, datagramOf, goes, stays, pack, packAll, datagramSize, goesSize, staysSize, packSizes, packAllSizes}
 
 -- ---- lists of lists
 
@@ -19,31 +19,27 @@ module _ {A : Type 0} where
   flat-append [] y = refl
   flat-append (p ∷ x) y = ap (λ (l : List A). p ++ l) (flat-append x y) ∙ sym (append-assoc p (flat x) (flat y))
 
-  pub lengths-append : (x y : List (List A)) → map length (x ++ y) ≡ map length x ++ map length y
-  lengths-append [] y = refl
-  lengths-append (p ∷ x) y = ap (λ (l : List ℕ). length p ∷ l) (lengths-append x y)
-
-  pub length-flat : (ps : List (List A)) → length (flat ps) ≡ total (map length ps)
-  unfolding flat total
+  pub length-flat : (ps : List (List A)) → length (flat ps) ≡ sumOf (map length ps)
+  unfolding flat sumOf
   length-flat [] = refl
   length-flat (p ∷ ps) = length-append p (flat ps) ∙ ap (λ (k : ℕ). length p + k) (length-flat ps)
 
   -- ---- one piece
 
-  pub written-size : (w : List A) → map length (written w) ≡ writtenSize (length w)
-  unfolding written writtenSize
-  written-size [] = refl
-  written-size (b ∷ w) = refl
+  pub datagram-size : (w : List A) → map length (datagramOf w) ≡ datagramSize (length w)
+  unfolding datagramOf datagramSize
+  datagram-size [] = refl
+  datagram-size (b ∷ w) = refl
 
-  pub flat-written : (w : List A) → flat (written w) ≡ w
-  unfolding flat written
-  flat-written [] = refl
-  flat-written (b ∷ w) = append-nil (b ∷ w)
+  pub flat-datagram : (w : List A) → flat (datagramOf w) ≡ w
+  unfolding flat datagramOf
+  flat-datagram [] = refl
+  flat-datagram (b ∷ w) = append-nil (b ∷ w)
 
   module _ (mtu : ℕ) (w p : List A) where
     pub goes-size : map length (goes mtu w p) ≡ goesSize mtu (length w) (length p)
     unfolding goes goesSize
-    goes-size = pick-ap (map length) (ltb mtu (length w + length p)) (written w) [] ∙ rw (written-size w)
+    goes-size = pick-ap (map length) (ltb mtu (length w + length p)) (datagramOf w) [] ∙ rw (datagram-size w)
 
     pub stays-size : length (stays mtu w p) ≡ staysSize mtu (length w) (length p)
     unfolding stays staysSize
@@ -53,8 +49,8 @@ module _ {A : Type 0} where
     unfolding goes stays pick flat
     step-joined = of (ltb mtu (length w + length p))
       where
-        of : (b : Bool) → flat (pick b (written w) []) ++ pick b p (w ++ p) ≡ w ++ p
-        of true = ap (λ (l : List A). l ++ p) (flat-written w)
+        of : (b : Bool) → flat (pick b (datagramOf w) []) ++ pick b p (w ++ p) ≡ w ++ p
+        of true = ap (λ (l : List A). l ++ p) (flat-datagram w)
         of false = refl
 
   -- ---- all pieces
@@ -63,7 +59,7 @@ module _ {A : Type 0} where
     pub pack-sizes : (w : List A) (ps : List (List A)) → map length (pack mtu w ps .0) ≡ packSizes mtu (length w) (map length ps) .0
     unfolding pack packSizes
     pack-sizes w [] = refl
-    pack-sizes w (p ∷ ps) = lengths-append (goes mtu w p) _ ∙ rw (goes-size, pack-sizes (stays mtu w p) ps, stays-size)
+    pack-sizes w (p ∷ ps) = map-append length (goes mtu w p) _ ∙ rw (goes-size, pack-sizes (stays mtu w p) ps, stays-size)
 
     pub pack-rest : (w : List A) (ps : List (List A)) → length (pack mtu w ps .1) ≡ packSizes mtu (length w) (map length ps) .1
     unfolding pack packSizes
@@ -88,13 +84,13 @@ module _ {A : Type 0} where
       -- where nothing is left to wait
       pub all-joined : flat (packAll mtu w ps) ≡ w ++ flat ps
       unfolding packAll
-      all-joined = flat-append (pack mtu w ps .0) (written (pack mtu w ps .1)) ∙ rw (flat-written (pack mtu w ps .1)) (joined w ps)
+      all-joined = flat-append (pack mtu w ps .0) (datagramOf (pack mtu w ps .1)) ∙ rw (flat-datagram (pack mtu w ps .1)) (joined w ps)
 
       pub all-sizes : map length (packAll mtu w ps) ≡ packAllSizes mtu (length w) (map length ps)
       unfolding packAll packAllSizes
       all-sizes =
-          lengths-append (pack mtu w ps .0) (written (pack mtu w ps .1))
-          ∙ rw (written-size (pack mtu w ps .1), pack-sizes w ps, pack-rest w ps)
+          map-append length (pack mtu w ps .0) (datagramOf (pack mtu w ps .1))
+          ∙ rw (datagram-size (pack mtu w ps .1), pack-sizes w ps, pack-rest w ps)
 
 -- ---- sizes: their sum, and the most
 
@@ -107,43 +103,43 @@ at-most-append : (b : ℕ) (x y : List ℕ) → AtMost b x → AtMost b y → At
 at-most-append b [] y p q = q
 at-most-append b (n ∷ x) y p q = (p .0, at-most-append b x y (p .1) q)
 
-pub total-append : (x y : List ℕ) → total (x ++ y) ≡ total x + total y
-unfolding total
-total-append [] y = omega arith
-total-append (n ∷ x) y = ap (λ (k : ℕ). n + k) (total-append x y) ∙ sym (add-assoc n (total x) (total y))
+pub sum-append : (x y : List ℕ) → sumOf (x ++ y) ≡ sumOf x + sumOf y
+unfolding sumOf
+sum-append [] y = omega arith
+sum-append (n ∷ x) y = ap (λ (k : ℕ). n + k) (sum-append x y) ∙ sym (add-assoc n (sumOf x) (sumOf y))
 
-written-total : (n : ℕ) → total (writtenSize n) ≡ n
-unfolding total writtenSize
-written-total zero = refl
-written-total (suc n) = omega arith
+datagram-total : (n : ℕ) → sumOf (datagramSize n) ≡ n
+unfolding sumOf datagramSize
+datagram-total zero = refl
+datagram-total (suc n) = omega arith
 
-written-most : (b n : ℕ) → n ≤ b → AtMost b (writtenSize n)
-unfolding writtenSize
-written-most b zero h = tt
-written-most b (suc n) h = (h, tt)
+datagram-most : (b n : ℕ) → n ≤ b → AtMost b (datagramSize n)
+unfolding datagramSize
+datagram-most b zero h = tt
+datagram-most b (suc n) h = (h, tt)
 
 module _ (mtu : ℕ) where
-  step-total : (n k : ℕ) → total (goesSize mtu n k) + staysSize mtu n k ≡ n + k
-  unfolding goesSize staysSize pick total
-  step-total n k = of (ltb mtu (n + k))
+  step-sum : (n k : ℕ) → sumOf (goesSize mtu n k) + staysSize mtu n k ≡ n + k
+  unfolding goesSize staysSize pick sumOf
+  step-sum n k = of (ltb mtu (n + k))
     where
-      of : (t : Bool) → total (pick t (writtenSize n) []) + pick t k (n + k) ≡ n + k
-      of true = ap (λ (x : ℕ). x + k) (written-total n)
+      of : (t : Bool) → sumOf (pick t (datagramSize n) []) + pick t k (n + k) ≡ n + k
+      of true = ap (λ (x : ℕ). x + k) (datagram-total n)
       of false = omega arith
 
   -- the sizes of the datagrams and of what waits are those of what waited and the pieces
-  pub sizes-total : (n : ℕ) (ks : List ℕ) → total (packSizes mtu n ks .0) + packSizes mtu n ks .1 ≡ n + total ks
-  unfolding packSizes total
-  sizes-total n [] = omega arith
-  sizes-total n (k ∷ ks) =
-      omega (arith, sizes-total (staysSize mtu n k) ks, step-total n k, total-append (goesSize mtu n k) (packSizes mtu (staysSize mtu n k) ks .0))
+  pub sizes-sum : (n : ℕ) (ks : List ℕ) → sumOf (packSizes mtu n ks .0) + packSizes mtu n ks .1 ≡ n + sumOf ks
+  unfolding packSizes sumOf
+  sizes-sum n [] = omega arith
+  sizes-sum n (k ∷ ks) =
+      omega (arith, sizes-sum (staysSize mtu n k) ks, step-sum n k, sum-append (goesSize mtu n k) (packSizes mtu (staysSize mtu n k) ks .0))
 
-  pub all-total : (n : ℕ) (ks : List ℕ) → total (packAllSizes mtu n ks) ≡ n + total ks
+  pub all-sum : (n : ℕ) (ks : List ℕ) → sumOf (packAllSizes mtu n ks) ≡ n + sumOf ks
   unfolding packAllSizes
-  all-total n ks =
-      total-append (packSizes mtu n ks .0) (writtenSize (packSizes mtu n ks .1))
-      ∙ ap (λ (x : ℕ). total (packSizes mtu n ks .0) + x) (written-total (packSizes mtu n ks .1))
-      ∙ sizes-total n ks
+  all-sum n ks =
+      sum-append (packSizes mtu n ks .0) (datagramSize (packSizes mtu n ks .1))
+      ∙ ap (λ (x : ℕ). sumOf (packSizes mtu n ks .0) + x) (datagram-total (packSizes mtu n ks .1))
+      ∙ sizes-sum n ks
 
   -- where neither the mtu, nor what waits, nor a piece is over b, no datagram is, and no more is left to wait
   module _ (b : ℕ) (m : mtu ≤ b) where
@@ -159,8 +155,8 @@ module _ (mtu : ℕ) where
     unfolding goesSize pick
     goes-most n k h = of (ltb mtu (n + k))
       where
-        of : (t : Bool) → AtMost b (pick t (writtenSize n) [])
-        of true = written-most b n h
+        of : (t : Bool) → AtMost b (pick t (datagramSize n) [])
+        of true = datagram-most b n h
         of false = tt
 
     pub rest-most : (n : ℕ) (ks : List ℕ) → n ≤ b → AtMost b ks → packSizes mtu n ks .1 ≤ b
@@ -177,4 +173,4 @@ module _ (mtu : ℕ) where
     pub all-most : (n : ℕ) (ks : List ℕ) → n ≤ b → AtMost b ks → AtMost b (packAllSizes mtu n ks)
     unfolding packAllSizes
     all-most n ks h a =
-        at-most-append b (packSizes mtu n ks .0) (writtenSize (packSizes mtu n ks .1)) (each-most n ks h a) (written-most b (packSizes mtu n ks .1) (rest-most n ks h a))
+        at-most-append b (packSizes mtu n ks .0) (datagramSize (packSizes mtu n ks .1)) (each-most n ks h a) (datagram-most b (packSizes mtu n ks .1) (rest-most n ks h a))

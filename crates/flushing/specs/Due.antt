@@ -78,8 +78,8 @@ unfoldable pub dies : Bool → ℕ → ℕ → Bool
 dies dead deadLink xmit = dead || leb deadLink xmit
 
 -- "self.xmit += 1" and "lost = true" for a timeout alone, and "change += 1" for a fast resend, of which only whether there was one is asked
-unfoldable pub counted : ℕ → Due → ℕ → Tally → Tally
-counted deadLink Idle xmit t = t
-counted deadLink Fresh xmit t = record { xmit = t .xmit; dead = dies (t .dead) deadLink xmit; lost = t .lost; change = t .change }
-counted deadLink TimedOut xmit t = record { xmit = add32 (t .xmit) 1; dead = dies (t .dead) deadLink xmit; lost = true; change = t .change }
-counted deadLink Fast xmit t = record { xmit = t .xmit; dead = dies (t .dead) deadLink xmit; lost = t .lost; change = true }
+unfoldable pub withSent : ℕ → Due → ℕ → Tally → Tally
+withSent deadLink Idle xmit t = t
+withSent deadLink Fresh xmit t = record { xmit = t .xmit; dead = dies (t .dead) deadLink xmit; lost = t .lost; change = t .change }
+withSent deadLink TimedOut xmit t = record { xmit = add32 (t .xmit) 1; dead = dies (t .dead) deadLink xmit; lost = true; change = t .change }
+withSent deadLink Fast xmit t = record { xmit = t .xmit; dead = dies (t .dead) deadLink xmit; lost = t .lost; change = true }

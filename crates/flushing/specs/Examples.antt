@@ -12,7 +12,7 @@ use Rattle.block.specs.declared.clock.Clock.{Clock}
 use Rattle.block.specs.declared.congestion.Congestion.{Congestion}
 use Rattle.block.specs.declared.probe.Probe.{Probe}
 use Rattle.block.specs.declared.refusal.Refusal.the-variants.{NeedUpdate, OutTooSmall}
-use Rattle.block.specs.declared.refusal.Answer.the-variants.{Refused}
+use Rattle.block.specs.declared.refusal.Answer.the-variants.{Done, Refused}
 use Rattle.block.specs.Fresh.{freshSettings, freshClock, freshCongestion, freshProbe}
 use Rattle.sending.specs.Rules.{Segment, Sending}
 use Rattle.sending.specs.Send.{verdict, fills, joins, pieces, needed, cut, lastOf, filled, queued, leftBy, send}
@@ -20,12 +20,12 @@ use Rattle.flushing.specs.declared.due.Record.{Record}
 use Rattle.flushing.specs.declared.due.Pace.{Pace}
 use Rattle.flushing.specs.declared.due.Due.the-variants.{Idle, Fresh, TimedOut, Fast}
 use Rattle.flushing.specs.declared.due.Tally.{Tally}
-use Rattle.flushing.specs.Windows.{windowOf, leaving, leavingBetween, resentOf, resentFast, timedOut, opened, congestionAfter}
+use Rattle.flushing.specs.Windows.{windowOf, leaving, leavingBetween, resentOf, resentFast, timedOut, atLeastOne, congestionAfter}
 use Rattle.flushing.specs.Probing.{askBit, probed, probeWndSize}
-use Rattle.flushing.specs.Due.{rtominOf, paceOf, resendsFast, dueOf, longerRto, sentAs, flownBy, dies, counted}
+use Rattle.flushing.specs.Due.{rtominOf, paceOf, resendsFast, dueOf, longerRto, sentAs, flownBy, dies, withSent}
 use Rattle.flushing.specs.Clocks.{far, restarted, dueFrom, nextFlush, ticked, tmFlush, nearest, tmPacket, checkOf}
-use Rattle.flushing.specs.Pack.{total, written, goes, stays, pack, packAll, writtenSize, goesSize, staysSize, packSizes, packAllSizes}
-use Rattle.flushing.specs.Pieces.{Ack, lastOf as lastAckOf, probePiece, launched, duePieces, tallied}
+use Rattle.flushing.specs.Pack.{sumOf, datagramOf, goes, stays, pack, packAll, datagramSize, goesSize, staysSize, packSizes, packAllSizes}
+use Rattle.flushing.specs.Pieces.{Ack, lastAckOf, probePiece, numberedFrom, duePieces, tallied}
 use Rattle.flushing.specs.Rules.{Outgoing, Outcome, Room, flushedAck, movedOut, flushed, exceeds, unlessExceeding, onceUpdated, flushAckRule, flushRule, updateRule, checkRule}
 
 -- ---- numbers
@@ -87,13 +87,13 @@ records = (refl, refl, refl, refl)
 tallyOf : ℕ → Bool → Bool → Bool → Tally
 tallyOf xmit dead lost change = record { xmit = xmit; dead = dead; lost = lost; change = change }
 
-counts : (counted 20 Fast 3 (tallyOf 7 false false false) ≡ tallyOf 7 false false true)
-    × (counted 20 TimedOut 3 (tallyOf 7 false false true) ≡ tallyOf 8 false true true)
-    × (counted 0 Fresh 1 (tallyOf 7 false false false) ≡ tallyOf 7 true false false)
-    × (counted 20 Fast 20 (tallyOf 7 false false false) ≡ tallyOf 7 true false true)
-    × (counted 20 Fresh 1 (tallyOf 7 true false false) ≡ tallyOf 7 true false false)
-    × (counted 0 Idle 9 (tallyOf 7 false false false) ≡ tallyOf 7 false false false)
-unfolding tallyOf counted dies
+counts : (withSent 20 Fast 3 (tallyOf 7 false false false) ≡ tallyOf 7 false false true)
+    × (withSent 20 TimedOut 3 (tallyOf 7 false false true) ≡ tallyOf 8 false true true)
+    × (withSent 0 Fresh 1 (tallyOf 7 false false false) ≡ tallyOf 7 true false false)
+    × (withSent 20 Fast 20 (tallyOf 7 false false false) ≡ tallyOf 7 true false true)
+    × (withSent 20 Fresh 1 (tallyOf 7 true false false) ≡ tallyOf 7 true false false)
+    × (withSent 0 Idle 9 (tallyOf 7 false false false) ≡ tallyOf 7 false false false)
+unfolding tallyOf withSent dies
 counts = (refl, refl, refl, refl, refl, refl)
 
 -- after a fast resend: cwnd = ssthresh + (resent as u16), modulo 2^16, and at least 1. After a loss: half the window of this flush, at least 2
@@ -114,7 +114,7 @@ windows : (congestionAfter 1376 3 65534 65535 true false (full 9 9 9) ≡ full 1
     × (windowOf true (congestion 32 128 1 2 0) ≡ 32)
     × (windowOf false (congestion 32 128 1 2 0) ≡ 1)
     × (resentOf 0 ≡ 4294967295)
-unfolding full congestion congestionAfter resentFast timedOut opened windowOf resentOf pick
+unfolding full congestion congestionAfter resentFast timedOut atLeastOne windowOf resentOf pick
 windows = (refl, refl, refl, refl, refl, refl, refl, refl, refl, refl, refl)
 
 -- "Updated block, clock 10,000 before ts_flush: update only stores the time. 10,001 before: ts_flush restarts and a flush runs". 10,000 past it
@@ -152,7 +152,7 @@ cuts : (packAllSizes 50 0 (1500 ∷ 1500 ∷ 72 ∷ 50 ∷ 28 ∷ []) ≡ 1500 �
     × (packSizes 50 0 (24 ∷ 24 ∷ 24 ∷ []) ≡ (48 ∷ [], 24))
     × (pack {A = ℕ} 3 (1 ∷ 2 ∷ []) ((3 ∷ []) ∷ (4 ∷ []) ∷ []) ≡ ((1 ∷ 2 ∷ 3 ∷ []) ∷ [], 4 ∷ []))
     × (packAll {A = ℕ} 3 [] [] ≡ [])
-unfolding packAllSizes packSizes goesSize staysSize writtenSize packAll pack goes stays written pick
+unfolding packAllSizes packSizes goesSize staysSize datagramSize packAll pack goes stays datagramOf pick
 cuts = (refl, refl, refl, refl, refl)
 
 -- ---- whole calls
@@ -188,29 +188,29 @@ first : Outcome
 first = updateRule room 0 hi
 
 second : Outcome
-second = updateRule room 100 (first .side)
+second = updateRule room 100 (first .after)
 
 resends : Outcome → List ℕ
-resends o = map (λ (s : Segment). s .resendts) (o .side .sending .flying)
+resends o = map (λ (s : Segment). s .resendts) (o .after .sending .flying)
 
 hi-row : (first .datagrams ≡ [])
-    × (first .side .congestion .cwnd ≡ 1)
+    × (first .after .congestion .cwnd ≡ 1)
     × (second .datagrams ≡ (68 ∷ 51 ∷ 34 ∷ 17 ∷ 81 ∷ 0 ∷ 128 ∷ 0 ∷ 100 ∷ 0 ∷ 0 ∷ 0 ∷ 0 ∷ 0 ∷ 0 ∷ 0 ∷ 0 ∷ 0 ∷ 0 ∷ 0 ∷ 2 ∷ 0 ∷ 0 ∷ 0 ∷ 104 ∷ 105 ∷ []) ∷ [])
     × (map length (second .datagrams) ≡ 26 ∷ [])
     × (resends second ≡ 325 ∷ [])
-unfolding room blank block hi first second resends updateRule unlessExceeding exceeds total ticked dueFrom restarted far signed32 nextFlush flushed windowOf probeWndSize probed leaving movedOut launched paceOf rtominOf resentOf duePieces dueOf resendsFast sentAs longerRto flownBy tallied counted dies congestionAfter opened packAll pack goes stays written pick headerBytes probePiece send leftBy verdict queued filled needed joins fills pieces cut lastOf
+unfolding room blank block hi first second resends updateRule unlessExceeding exceeds sumOf ticked dueFrom restarted far signed32 nextFlush flushed windowOf probeWndSize probed leaving movedOut numberedFrom paceOf rtominOf resentOf duePieces dueOf resendsFast sentAs longerRto flownBy tallied withSent dies congestionAfter atLeastOne packAll pack goes stays datagramOf pick headerBytes probePiece send leftBy verdict queued filled needed joins fills pieces cut lastOf
 hi-row = (refl, refl, refl, refl, refl)
 
 -- 13 leaves all: one byte too few, or no length; of a first update the clock too, so that flush still gives 9
 narrow : ℕ → ℕ → Room
 narrow bytes lengths = record { bytes = bytes; lengths = lengths }
 
-tight : (updateRule (narrow 25 64) 100 (first .side) ≡ record { answer = Refused OutTooSmall; side = first .side; datagrams = [] })
-    × (updateRule (narrow 26 0) 100 (first .side) ≡ record { answer = Refused OutTooSmall; side = first .side; datagrams = [] })
-    × (updateRule (narrow 26 1) 100 (first .side) ≡ second)
-    × (flushRule room hi ≡ record { answer = Refused NeedUpdate; side = hi; datagrams = [] })
-    × (flushAckRule room hi ≡ record { answer = Refused NeedUpdate; side = hi; datagrams = [] })
-unfolding room narrow blank block hi first second resends updateRule onceUpdated unlessExceeding exceeds total ticked dueFrom restarted far signed32 nextFlush flushedAck flushed windowOf probeWndSize probed askBit leaving movedOut launched paceOf rtominOf resentOf duePieces dueOf resendsFast sentAs longerRto flownBy tallied counted dies congestionAfter resentFast timedOut opened packAll pack goes stays written pick headerBytes probePiece lastAckOf send leftBy verdict queued filled needed joins fills pieces cut lastOf
+tight : (updateRule (narrow 25 64) 100 (first .after) ≡ record { answer = Refused OutTooSmall; after = first .after; datagrams = [] })
+    × (updateRule (narrow 26 0) 100 (first .after) ≡ record { answer = Refused OutTooSmall; after = first .after; datagrams = [] })
+    × (updateRule (narrow 26 1) 100 (first .after) ≡ second)
+    × (flushRule room hi ≡ record { answer = Refused NeedUpdate; after = hi; datagrams = [] })
+    × (flushAckRule room hi ≡ record { answer = Refused NeedUpdate; after = hi; datagrams = [] })
+unfolding room narrow blank block hi first second resends updateRule onceUpdated unlessExceeding exceeds sumOf ticked dueFrom restarted far signed32 nextFlush flushedAck flushed windowOf probeWndSize probed askBit leaving movedOut numberedFrom paceOf rtominOf resentOf duePieces dueOf resendsFast sentAs longerRto flownBy tallied withSent dies congestionAfter resentFast timedOut atLeastOne packAll pack goes stays datagramOf pick headerBytes probePiece lastAckOf send leftBy verdict queued filled needed joins fills pieces cut lastOf
 tight = (refl, refl, refl, refl, refl)
 
 -- a block of conv 1 at time 0 that was updated and flushes every 100, and the headers that it sends: no window of congestion, the peer's rmt
@@ -226,6 +226,21 @@ head conv cmd wnd ts sn una len = headerBytes (record { conv = conv; cmd = cmd; 
 at55 : List Ack
 at55 = record { sn = 0; ts = 55 } ∷ []
 
+-- a segment of one byte that waits
+waitsOne : Segment
+waitsOne = record { conv = 0; frg = 0; sn = 0; ts = 0; resendts = 0; rto = 0; fastack = 0; xmit = 0; payload = 98 ∷ [] }
+
+-- a first update that is refused leaves the block without one
+unready : Outgoing
+unready = block (quiet 1) (freshClock 100) freshCongestion freshProbe 0 0 (record { una = 0; next = 0; flying = []; waiting = waitsOne ∷ [] }) []
+
+unmoved : (updateRule (narrow 24 1) 7 unready ≡ record { answer = Refused OutTooSmall; after = unready; datagrams = [] })
+    × (updateRule (narrow 25 1) 7 unready .answer ≡ Done)
+    × (updateRule (narrow 25 1) 7 unready .datagrams ≡ (head 1 81 128 7 0 0 1 ++ (98 ∷ [])) ∷ [])
+    × (flushRule (narrow 25 1) unready .answer ≡ Refused NeedUpdate)
+unfolding narrow block quiet clock congestion waitsOne unready head updateRule onceUpdated unlessExceeding exceeds sumOf ticked dueFrom restarted far signed32 nextFlush flushedAck flushed windowOf probeWndSize probed askBit leaving movedOut numberedFrom paceOf rtominOf resentOf duePieces dueOf resendsFast sentAs longerRto flownBy tallied withSent dies congestionAfter resentFast timedOut atLeastOne packAll pack goes stays datagramOf pick headerBytes probePiece lastAckOf
+unmoved = (refl, refl, refl, refl)
+
 -- an ack of a push at 55, and a tell: "An ask or tell carries sn and ts of the last ack of the same flush, else 0", so not of one that a flush_ack put
 -- out before. Its bytes wait, an update that is not due leaves them, and check does not see them
 told : Outgoing
@@ -236,14 +251,14 @@ acked = flushAckRule room told
 
 same : (updateRule room 100 told .datagrams ≡ (head 1 82 127 55 0 1 0 ++ head 1 84 127 55 0 1 0) ∷ [])
     × (acked .datagrams ≡ [])
-    × (acked .side .waiting ≡ head 1 82 127 55 0 1 0)
-    × (acked .side .acks ≡ [])
-    × (updateRule room 99 (acked .side) .datagrams ≡ [])
-    × (updateRule room 99 (acked .side) .side .waiting ≡ head 1 82 127 55 0 1 0)
-    × (checkRule 40 (acked .side) ≡ checkRule 40 told)
-    × (updateRule room 100 (acked .side) .datagrams ≡ (head 1 82 127 55 0 1 0 ++ head 1 84 127 0 0 1 0) ∷ [])
-    × (updateRule room 100 (acked .side) .side .probe .bits ≡ 0)
-unfolding room blank block congestion clock quiet updated head at55 told acked updateRule onceUpdated unlessExceeding exceeds total ticked dueFrom restarted far signed32 nextFlush flushedAck flushed windowOf probeWndSize probed askBit leaving movedOut launched paceOf rtominOf resentOf duePieces dueOf resendsFast sentAs longerRto flownBy tallied counted dies congestionAfter resentFast timedOut opened packAll pack goes stays written pick headerBytes probePiece lastAckOf checkOf tmFlush tmPacket nearest
+    × (acked .after .waiting ≡ head 1 82 127 55 0 1 0)
+    × (acked .after .acks ≡ [])
+    × (updateRule room 99 (acked .after) .datagrams ≡ [])
+    × (updateRule room 99 (acked .after) .after .waiting ≡ head 1 82 127 55 0 1 0)
+    × (checkRule 40 (acked .after) ≡ checkRule 40 told)
+    × (updateRule room 100 (acked .after) .datagrams ≡ (head 1 82 127 55 0 1 0 ++ head 1 84 127 0 0 1 0) ∷ [])
+    × (updateRule room 100 (acked .after) .after .probe .bits ≡ 0)
+unfolding room blank block congestion clock quiet updated head at55 told acked updateRule onceUpdated unlessExceeding exceeds sumOf ticked dueFrom restarted far signed32 nextFlush flushedAck flushed windowOf probeWndSize probed askBit leaving movedOut numberedFrom paceOf rtominOf resentOf duePieces dueOf resendsFast sentAs longerRto flownBy tallied withSent dies congestionAfter resentFast timedOut atLeastOne packAll pack goes stays datagramOf pick headerBytes probePiece lastAckOf checkOf tmFlush tmPacket nearest
 same = (refl, refl, refl, refl, refl, refl, refl, refl, refl)
 
 -- waiting bytes are bytes: another conv, and a push more, do not change them
@@ -260,17 +275,14 @@ bytes : flushRule room (record {
   xmit = 0;
   dead = false;
   acks = record { sn = 1; ts = 56 } ∷ [];
-  waiting = acked .side .waiting;
+  waiting = acked .after .waiting;
 }) .datagrams ≡ (head 1 82 127 55 0 1 0 ++ head 2 82 126 56 1 2 0) ∷ []
-unfolding room blank block congestion clock quiet updated head at55 told acked updateRule onceUpdated unlessExceeding exceeds total ticked dueFrom restarted far signed32 nextFlush flushedAck flushed windowOf probeWndSize probed askBit leaving movedOut launched paceOf rtominOf resentOf duePieces dueOf resendsFast sentAs longerRto flownBy tallied counted dies congestionAfter resentFast timedOut opened packAll pack goes stays written pick headerBytes probePiece lastAckOf
+unfolding room blank block congestion clock quiet updated head at55 told acked updateRule onceUpdated unlessExceeding exceeds sumOf ticked dueFrom restarted far signed32 nextFlush flushedAck flushed windowOf probeWndSize probed askBit leaving movedOut numberedFrom paceOf rtominOf resentOf duePieces dueOf resendsFast sentAs longerRto flownBy tallied withSent dies congestionAfter resentFast timedOut atLeastOne packAll pack goes stays datagramOf pick headerBytes probePiece lastAckOf
 bytes = refl
 
--- a segment of one byte in flight, sent at 10 under this conv, and one that waits
+-- a segment of one byte in flight, sent at 10 under this conv
 flies : ℕ → ℕ → Segment
 flies conv sn = record { conv = conv; frg = 0; sn = sn; ts = 10; resendts = 210; rto = 200; fastack = 0; xmit = 1; payload = 97 ∷ [] }
-
-waitsOne : Segment
-waitsOne = record { conv = 0; frg = 0; sn = 0; ts = 0; resendts = 0; rto = 0; fastack = 0; xmit = 0; payload = 98 ∷ [] }
 
 -- a resend carries the conv that its segment got when first sent; its ts is now. The block counts both timeouts
 both : Outgoing
@@ -280,15 +292,15 @@ fresh : Outcome
 fresh = updateRule room 100 both
 
 late : Outcome
-late = updateRule room 300 (fresh .side)
+late = updateRule room 300 (fresh .after)
 
 convs : (fresh .datagrams ≡ (head 9 81 128 100 1 0 1 ++ (98 ∷ [])) ∷ [])
     × (resends fresh ≡ 210 ∷ 300 ∷ [])
     × (late .datagrams ≡ (head 1 81 128 300 0 0 1 ++ (97 ∷ head 9 81 128 300 1 0 1 ++ (98 ∷ []))) ∷ [])
     × (resends late ≡ 600 ∷ 600 ∷ [])
-    × (late .side .xmit ≡ 2)
-    × (late .side .congestion ≡ congestion 32 128 1 16 1376)
-unfolding room blank block congestion clock quiet updated head flies waitsOne both fresh late resends updateRule onceUpdated unlessExceeding exceeds total ticked dueFrom restarted far signed32 nextFlush flushedAck flushed windowOf probeWndSize probed askBit leaving movedOut launched paceOf rtominOf resentOf duePieces dueOf resendsFast sentAs longerRto flownBy tallied counted dies congestionAfter resentFast timedOut opened packAll pack goes stays written pick headerBytes probePiece lastAckOf
+    × (late .after .xmit ≡ 2)
+    × (late .after .congestion ≡ congestion 32 128 1 16 1376)
+unfolding room blank block congestion clock quiet updated head flies waitsOne both fresh late resends updateRule onceUpdated unlessExceeding exceeds sumOf ticked dueFrom restarted far signed32 nextFlush flushedAck flushed windowOf probeWndSize probed askBit leaving movedOut numberedFrom paceOf rtominOf resentOf duePieces dueOf resendsFast sentAs longerRto flownBy tallied withSent dies congestionAfter resentFast timedOut atLeastOne packAll pack goes stays datagramOf pick headerBytes probePiece lastAckOf
 convs = (refl, refl, refl, refl, refl, refl)
 
 -- rmt_wnd 0: nothing fresh, resends go on; the first flush arms the probe, and the ask goes out when its time is up
@@ -299,12 +311,12 @@ armed : Outcome
 armed = updateRule room 250 shut
 
 asked : Outcome
-asked = updateRule room 7250 (armed .side)
+asked = updateRule room 7250 (armed .after)
 
 probes : (armed .datagrams ≡ (head 1 81 128 250 0 0 1 ++ (97 ∷ [])) ∷ [])
-    × (armed .side .sending .waiting ≡ waitsOne ∷ [])
-    × (armed .side .probe ≡ record { bits = 0; «ts_probe» = 7250; «probe_wait» = 7000 })
+    × (armed .after .sending .waiting ≡ waitsOne ∷ [])
+    × (armed .after .probe ≡ record { bits = 0; «ts_probe» = 7250; «probe_wait» = 7000 })
     × (asked .datagrams ≡ (head 1 83 128 0 0 0 0 ++ (head 1 81 128 7250 0 0 1 ++ (97 ∷ []))) ∷ [])
-    × (asked .side .probe ≡ record { bits = 0; «ts_probe» = 17750; «probe_wait» = 10500 })
-unfolding room blank block congestion clock quiet updated head flies waitsOne shut armed asked updateRule onceUpdated unlessExceeding exceeds total ticked dueFrom restarted far signed32 nextFlush flushedAck flushed windowOf probeWndSize probed askBit leaving movedOut launched paceOf rtominOf resentOf duePieces dueOf resendsFast sentAs longerRto flownBy tallied counted dies congestionAfter resentFast timedOut opened packAll pack goes stays written pick headerBytes probePiece lastAckOf
+    × (asked .after .probe ≡ record { bits = 0; «ts_probe» = 17750; «probe_wait» = 10500 })
+unfolding room blank block congestion clock quiet updated head flies waitsOne shut armed asked updateRule onceUpdated unlessExceeding exceeds sumOf ticked dueFrom restarted far signed32 nextFlush flushedAck flushed windowOf probeWndSize probed askBit leaving movedOut numberedFrom paceOf rtominOf resentOf duePieces dueOf resendsFast sentAs longerRto flownBy tallied withSent dies congestionAfter resentFast timedOut atLeastOne packAll pack goes stays datagramOf pick headerBytes probePiece lastAckOf
 probes = (refl, refl, refl, refl, refl)

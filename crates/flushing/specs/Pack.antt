@@ -11,18 +11,18 @@ unfoldable pub flat : {A : Type 0} → List (List A) → List A
 flat [] = []
 flat (p ∷ ps) = p ++ flat ps
 
-unfoldable pub total : List ℕ → ℕ
-total [] = 0
-total (n ∷ ns) = n + total ns
+unfoldable pub sumOf : List ℕ → ℕ
+sumOf [] = 0
+sumOf (n ∷ ns) = n + sumOf ns
 
 -- "an empty write is no datagram"
-unfoldable pub written : {A : Type 0} → List A → List (List A)
-written [] = []
-written (b ∷ w) = (b ∷ w) ∷ []
+unfoldable pub datagramOf : {A : Type 0} → List A → List (List A)
+datagramOf [] = []
+datagramOf (b ∷ w) = (b ∷ w) ∷ []
 
 -- what goes out before a piece, and what waits then, the piece with it
 unfoldable pub goes : {A : Type 0} → ℕ → List A → List A → List (List A)
-goes mtu w p = pick (ltb mtu (length w + length p)) (written w) []
+goes mtu w p = pick (ltb mtu (length w + length p)) (datagramOf w) []
 
 unfoldable pub stays : {A : Type 0} → ℕ → List A → List A → List A
 stays mtu w p = pick (ltb mtu (length w + length p)) p (w ++ p)
@@ -34,16 +34,16 @@ pack mtu w (p ∷ ps) = (goes mtu w p ++ pack mtu (stays mtu w p) ps .0, pack mt
 
 -- "if !self.buf.is_empty() { self.output.write_all(&self.buf)?; .. }": what waits goes out too
 unfoldable pub packAll : {A : Type 0} → ℕ → List A → List (List A) → List (List A)
-packAll mtu w ps = pack mtu w ps .0 ++ written (pack mtu w ps .1)
+packAll mtu w ps = pack mtu w ps .0 ++ datagramOf (pack mtu w ps .1)
 
 -- ---- the same over lengths alone
 
-unfoldable pub writtenSize : ℕ → List ℕ
-writtenSize zero = []
-writtenSize (suc n) = suc n ∷ []
+unfoldable pub datagramSize : ℕ → List ℕ
+datagramSize zero = []
+datagramSize (suc n) = suc n ∷ []
 
 unfoldable pub goesSize : ℕ → ℕ → ℕ → List ℕ
-goesSize mtu n k = pick (ltb mtu (n + k)) (writtenSize n) []
+goesSize mtu n k = pick (ltb mtu (n + k)) (datagramSize n) []
 
 unfoldable pub staysSize : ℕ → ℕ → ℕ → ℕ
 staysSize mtu n k = pick (ltb mtu (n + k)) k (n + k)
@@ -53,4 +53,4 @@ packSizes mtu n [] = ([], n)
 packSizes mtu n (k ∷ ks) = (goesSize mtu n k ++ packSizes mtu (staysSize mtu n k) ks .0, packSizes mtu (staysSize mtu n k) ks .1)
 
 unfoldable pub packAllSizes : ℕ → ℕ → List ℕ → List ℕ
-packAllSizes mtu n ks = packSizes mtu n ks .0 ++ writtenSize (packSizes mtu n ks .1)
+packAllSizes mtu n ks = packSizes mtu n ks .0 ++ datagramSize (packSizes mtu n ks .1)

@@ -8,11 +8,11 @@ use Rattle.serial.specs.Wrap.{add32, notBefore}
 use Rattle.block.specs.declared.probe.Probe.{Probe}
 
 -- the ask is the bit of value 1, the tell that of value 2
-abbrev pub asks : ℕ → Bool
-asks bits = eqb (bits % 2) 1
+abbrev pub askSet : ℕ → Bool
+askSet bits = eqb (bits % 2) 1
 
-abbrev pub tells : ℕ → Bool
-tells bits = eqb (bits / 2 % 2) 1
+abbrev pub tellSet : ℕ → Bool
+tellSet bits = eqb (bits / 2 % 2) 1
 
 -- "self.probe |= KCP_ASK_SEND"
 unfoldable pub askBit : ℕ → ℕ

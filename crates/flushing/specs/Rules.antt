@@ -15,7 +15,7 @@ use Rattle.block.specs.declared.refusal.Refusal.{Refusal}
 use Rattle.block.specs.declared.refusal.Refusal.the-variants.{NeedUpdate, OutTooSmall}
 use Rattle.block.specs.declared.refusal.Answer.{Answer}
 use Rattle.block.specs.declared.refusal.Answer.the-variants.{Done, Refused}
-use Rattle.sending.specs.Rules.{Segment, Sending}
+use Rattle.sending.specs.Rules.{Segment, Sending, withFlying}
 use Rattle.flushing.specs.declared.due.Pace.{Pace}
 use Rattle.flushing.specs.declared.due.Tally.{Tally}
 use Rattle.flushing.specs.declared.headers.Told.{Told}
@@ -23,8 +23,8 @@ use Rattle.flushing.specs.Windows.{wndUnused, windowOf, leaving, congest
 use Rattle.flushing.specs.Probing.{probeWndSize}
 use Rattle.flushing.specs.Due.{paceOf}
 use Rattle.flushing.specs.Clocks.{ticked, checkOf}
-use Rattle.flushing.specs.Pack.{total, pack, packAll}
-use Rattle.flushing.specs.Pieces.{Ack, Piece, bytesOf, ackPieces, launched, sentOut, tallied, flushPieces}
+use Rattle.flushing.specs.Pack.{sumOf, pack, packAll}
+use Rattle.flushing.specs.Pieces.{Ack, Piece, pieceBytes, ackPieces, numberedFrom, sentOut, tallied, flushPieces}
 
 -- what the calls see of a block: its parts, rx_rto, what the receiving side is told of (rcv_nxt, rcv_wnd, how many are queued), the segments in flight
 -- and those that wait, the timeouts counted, whether the link is dead, the acks, and the bytes that wait
@@ -45,7 +45,7 @@ pub record Outgoing : Type 0 where
 
 -- the same block, and the datagrams that went out
 pub record Flushed : Type 0 where
-  pub side : Outgoing
+  pub after : Outgoing
   pub datagrams : List (List ℕ)
 
 -- ---- parts
@@ -54,8 +54,8 @@ pub record Flushed : Type 0 where
 abbrev pub toldBy : Outgoing → Told
 toldBy o = record { conv = o .settings .conv; wnd = wndUnused (o .rcvWnd) (o .queued); una = o .rcvNxt }
 
-abbrev pub withClock : Outgoing → Clock → Outgoing
-withClock o clock = record {
+abbrev pub onClock : Outgoing → Clock → Outgoing
+onClock o clock = record {
   settings = o .settings;
   clock = clock;
   rxRto = o .rxRto;
@@ -72,8 +72,8 @@ withClock o clock = record {
 }
 
 -- no ack is left, and these bytes wait
-abbrev pub withWaiting : Outgoing → List ℕ → Outgoing
-withWaiting o waiting = record {
+abbrev pub leftWaiting : Outgoing → List ℕ → Outgoing
+leftWaiting o waiting = record {
   settings = o .settings;
   clock = o .clock;
   rxRto = o .rxRto;
@@ -94,8 +94,8 @@ withWaiting o waiting = record {
 -- the acks are packed behind the bytes that wait, and what is not full stays waiting
 unfoldable pub flushedAck : Outgoing → Flushed
 flushedAck o =
-    let packed = pack (o .settings .mtu) (o .waiting) (map bytesOf (ackPieces (toldBy o) (o .acks))) in
-    record { side = withWaiting o (packed .1); datagrams = packed .0 }
+    let packed = pack (o .settings .mtu) (o .waiting) (map pieceBytes (ackPieces (toldBy o) (o .acks))) in
+    record { after = leftWaiting o (packed .1); datagrams = packed .0 }
 
 -- ---- `flush`
 
@@ -106,12 +106,9 @@ movedOut conv current rxRto window s =
     record {
       una = s .una;
       next = add32 (s .next) k;
-      flying = s .flying ++ launched conv current rxRto (s .next) (take k (s .waiting));
+      flying = s .flying ++ numberedFrom conv current rxRto (s .next) (take k (s .waiting));
       waiting = drop k (s .waiting);
     }
-
-abbrev pub withFlying : Sending → List Segment → Sending
-withFlying s l = record { una = s .una; next = s .next; flying = l; waiting = s .waiting }
 
 module _ (o : Outgoing) where
   abbrev pub window : ℕ
@@ -132,13 +129,13 @@ module _ (o : Outgoing) where
   abbrev pub tally : Tally
   tally = tallied (o .settings .«dead_link») pace (sent .flying) (record { xmit = o .xmit; dead = o .dead; lost = false; change = false })
 
-  abbrev pub pieces : List Piece
-  pieces = flushPieces (toldBy o) (o .acks) (probing .bits) pace (sent .flying)
+  abbrev pub piecesOf : List Piece
+  piecesOf = flushPieces (toldBy o) (o .acks) (probing .bits) pace (sent .flying)
 
   -- every piece goes out; the probe's bits are used up, and no byte waits
   unfoldable pub flushed : Flushed
   flushed = record {
-    side = record {
+    after = record {
       settings = o .settings;
       clock = o .clock;
       rxRto = o .rxRto;
@@ -153,7 +150,7 @@ module _ (o : Outgoing) where
       acks = [];
       waiting = [];
     };
-    datagrams = packAll (o .settings .mtu) (o .waiting) (map bytesOf pieces);
+    datagrams = packAll (o .settings .mtu) (o .waiting) (map pieceBytes piecesOf);
   }
 
 -- ---- the calls
@@ -165,24 +162,24 @@ pub record Room : Type 0 where
 
 -- "13 | the datagrams of this call exceed the lent bytes or lent lengths", by their sizes
 unfoldable pub exceeds : Room → List ℕ → Bool
-exceeds room sizes = ltb (room .bytes) (total sizes) || ltb (room .lengths) (length sizes)
+exceeds room sizes = ltb (room .bytes) (sumOf sizes) || ltb (room .lengths) (length sizes)
 
 -- an answer, the block afterwards, and the datagrams
 pub record Outcome : Type 0 where
   pub answer : Answer
-  pub side : Outgoing
+  pub after : Outgoing
   pub datagrams : List (List ℕ)
 
 -- refused: "all as it was"
 abbrev pub refused : Refusal → Outgoing → Outcome
-refused why o = record { answer = Refused why; side = o; datagrams = [] }
+refused why o = record { answer = Refused why; after = o; datagrams = [] }
 
 -- what a call makes of the block o, unless it is more than is lent: then o, "clock too"
 unfoldable pub unlessExceeding : Room → Outgoing → Flushed → Outcome
 unlessExceeding room o f =
     pick (exceeds room (map length (f .datagrams)))
     (refused OutTooSmall o)
-    (record { answer = Done; side = f .side; datagrams = f .datagrams })
+    (record { answer = Done; after = f .after; datagrams = f .datagrams })
 
 -- "9 | flush or flush_ack before any update", and "9 before 13"
 unfoldable pub onceUpdated : Room → Outgoing → Flushed → Outcome
@@ -198,8 +195,8 @@ flushRule room o = onceUpdated room o (flushed o)
 unfoldable pub updateRule : Room → ℕ → Outgoing → Outcome
 updateRule room current o =
     let t = ticked (o .clock) current in
-    let now = withClock o (t .clock) in
-    pick (t .flushes) (unlessExceeding room o (flushed now)) (record { answer = Done; side = now; datagrams = [] })
+    let now = onClock o (t .clock) in
+    pick (t .flushes) (unlessExceeding room o (flushed now)) (record { answer = Done; after = now; datagrams = [] })
 
 -- the wait until the next update; waiting bytes are not asked for
 abbrev pub checkRule : ℕ → Outgoing → ℕ

@@ -53,11 +53,11 @@ unfoldable pub timedOut : ℕ → ℕ → Congestion → Congestion
 timedOut mss window c = withCwnd c (halved window) 1 mss
 
 -- "if self.cwnd < 1 { self.cwnd = 1; self.incr = self.mss; }"
-unfoldable pub opened : ℕ → Congestion → Congestion
-opened mss c = pick (ltb (c .cwnd) 1) (withCwnd c (c .ssthresh) 1 mss) c
+unfoldable pub atLeastOne : ℕ → Congestion → Congestion
+atLeastOne mss c = pick (ltb (c .cwnd) 1) (withCwnd c (c .ssthresh) 1 mss) c
 
 -- the three, in this order: whether a segment was resent fast, and whether one timed out
 unfoldable pub congestionAfter : ℕ → ℕ → ℕ → ℕ → Bool → Bool → Congestion → Congestion
 congestionAfter mss inflight resent window change lost c =
     let d = pick change (resentFast mss inflight resent c) c in
-    opened mss (pick lost (timedOut mss window d) d)
+    atLeastOne mss (pick lost (timedOut mss window d) d)

@@ -1,6 +1,6 @@
 // One segment of the send buffer in a flush: whether and how it goes out, what its record becomes, and what is counted of it.
 ghost use mathlib.Core.Path.{_≡_};
-ghost use Rattle.flushing.specs.Due.{numbered, rtominOf, paceOf, resendsFast, dueOf, longerRto, again, sentAs, flownBy, goesOut, dies, counted};
+ghost use Rattle.flushing.specs.Due.{numbered, rtominOf, paceOf, resendsFast, dueOf, longerRto, again, sentAs, flownBy, goesOut, dies, withSent};
 use crate::windows::resent_of;
 use block::settings::Settings;
 
@@ -197,8 +197,8 @@ fn dies(dead: bool, dead_link: u32, xmit: u32) -> bool
 
 impl Tally {
     // With one segment more, by how it goes out and how often it then was sent. A timeout is counted, a fast resend is not.
-    pub fn counted(self, dead_link: u32, due: Due, xmit: u32) -> Tally
-        ensures { λ r. ⌜ r ≡ counted «dead_link» due xmit self ⌝ }
+    pub fn with_sent(self, dead_link: u32, due: Due, xmit: u32) -> Tally
+        ensures { λ r. ⌜ r ≡ withSent «dead_link» due xmit self ⌝ }
     {
         let dead = dies(self.dead, dead_link, xmit);
         match due {

@@ -1,6 +1,6 @@
 // The headers of a flush.
 ghost use mathlib.Core.Path.{_≡_};
-ghost use Rattle.flushing.specs.Pieces.{shortHeader, pushHeader};
+ghost use Rattle.flushing.specs.Pieces.{bareHead, pushHead};
 use crate::due::Record;
 use wire::Header;
 
@@ -13,8 +13,8 @@ pub struct Told {
 
 impl Told {
     // The header of an ack, an ask or a tell.
-    pub fn short_header(self, cmd: u8, sn: u32, ts: u32) -> Header
-        ensures { λ r. ⌜ r ≡ shortHeader self cmd sn ts ⌝ }
+    pub fn bare_head(self, cmd: u8, sn: u32, ts: u32) -> Header
+        ensures { λ r. ⌜ r ≡ bareHead self cmd sn ts ⌝ }
     {
         Header {
             conv: self.conv,
@@ -29,8 +29,8 @@ impl Told {
     }
 
     // The header of a push with len bytes: its conv is that of its first flight.
-    pub fn push_header(self, record: Record, len: u32) -> Header
-        ensures { λ r. ⌜ r ≡ pushHeader self «record» len ⌝ }
+    pub fn push_head(self, record: Record, len: u32) -> Header
+        ensures { λ r. ⌜ r ≡ pushHead self «record» len ⌝ }
     {
         Header {
             conv: record.conv,

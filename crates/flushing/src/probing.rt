@@ -1,20 +1,20 @@
 // The window probe while the peer's window is 0.
 ghost use mathlib.Core.Path.{_≡_};
 ghost use Rattle.block.specs.WellFormed.{ProbeFits};
-ghost use Rattle.flushing.specs.Probing.{asks, tells, askBit, longerWait, armed, probed, probeWndSize};
+ghost use Rattle.flushing.specs.Probing.{askSet, tellSet, askBit, longerWait, armed, probed, probeWndSize};
 use block::Kcp;
 use block::probe::Probe;
 
 // Whether an ask is to go out.
-pub fn asks(bits: u32) -> bool
-    ensures { λ r. ⌜ r ≡ asks bits ⌝ }
+pub fn ask_set(bits: u32) -> bool
+    ensures { λ r. ⌜ r ≡ askSet bits ⌝ }
 {
     bits % 2 == 1
 }
 
 // Whether a tell is to go out.
-pub fn tells(bits: u32) -> bool
-    ensures { λ r. ⌜ r ≡ tells bits ⌝ }
+pub fn tell_set(bits: u32) -> bool
+    ensures { λ r. ⌜ r ≡ tellSet bits ⌝ }
 {
     bits / 2 % 2 == 1
 }

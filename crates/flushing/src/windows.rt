@@ -3,7 +3,7 @@ ghost use mathlib.Core.Path.{_≡_};
 ghost use Prim.Native.Nat.{min};
 ghost use Rattle.serial.specs.Branch.{pick};
 ghost use Rattle.serial.specs.Wrap.{add32};
-ghost use Rattle.flushing.specs.Windows.{wndUnused, windowOf, leaving, resentOf, halved, withCwnd, resentFast, timedOut, opened, congestionAfter};
+ghost use Rattle.flushing.specs.Windows.{wndUnused, windowOf, leaving, resentOf, halved, withCwnd, resentFast, timedOut, atLeastOne, congestionAfter};
 use block::Kcp;
 use block::congestion::Congestion;
 
@@ -46,7 +46,7 @@ pub fn leaving(snd_una: u32, window: u16, snd_nxt: u32, waiting: u32) -> u32
     0
 }
 
-// How many acks of later segments have a segment resent fast; where it is switched off, more than there can be.
+// How many acks of later segments have a segment resent fast; where it is switched off, the largest number.
 pub fn resent_of(fastresend: u32) -> u32
     ensures { λ r. ⌜ r ≡ resentOf fastresend ⌝ }
 {
@@ -97,8 +97,8 @@ fn timed_out(congestion: Congestion, mss: u32, window: u16) -> Congestion
 }
 
 // A window of no segments becomes one of one.
-fn opened(congestion: Congestion, mss: u32) -> Congestion
-    ensures { λ r. ⌜ r ≡ opened mss congestion ⌝ }
+fn at_least_one(congestion: Congestion, mss: u32) -> Congestion
+    ensures { λ r. ⌜ r ≡ atLeastOne mss congestion ⌝ }
 {
     if congestion.cwnd < 1 {
         return with_cwnd(congestion, congestion.ssthresh, 1, mss as u64);
@@ -136,7 +136,7 @@ pub fn congestion_after(
 {
     let changed = after_change(congestion, mss, inflight, resent, change);
     if lost {
-        return opened(timed_out(changed, mss, window), mss);
+        return at_least_one(timed_out(changed, mss, window), mss);
     }
-    opened(changed, mss)
+    at_least_one(changed, mss)
 }

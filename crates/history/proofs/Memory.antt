@@ -22,7 +22,7 @@ use Rattle.block.specs.declared.acklist.AckList.{AckList}
 use Rattle.block.specs.declared.sender.Sender.{Sender}
 use Rattle.block.specs.Parts.{withReceiver, withSender}
 use Rattle.block.specs.Sizes.{RingSizes, sendSlots, AckSizes, pairs, mtuSize}
-use Rattle.block.specs.WellFormed.{SettingsFit, ProbeFits, AckListFits, SenderFits, OwnNumbers}
+use Rattle.block.specs.WellFormed.{SettingsFit, ProbeFits, AckListFits, SenderFits, OwnNumbers, ackLent}
 use Rattle.block.specs.Setters.{setMtu}
 use Rattle.block.proofs.Exact.{exactly-within, exactly-le, own-numbers, ack-sizes}
 use Rattle.receiving.specs.Rules.{Answer, empty, expecting, longer, gives, payloads, joined, given, tooLarge, tells}
@@ -43,7 +43,7 @@ use Rattle.input.specs.Segment.{Met, End, through, stopped}
 use Rattle.input.specs.Datagram.{ReadOut, metOf, finished, walkOf, readAt}
 use Rattle.kcp.specs.Calls.{moveBufOf, outBy, recvOf, setWndsizeOf, RecvOut}
 use Rattle.kcp_send.specs.Send.{SendOut, sendOf}
-use Rattle.kcp_input.specs.Input.{ackLent, inputFits, inputOf}
+use Rattle.kcp_input.specs.Input.{inputFits, inputOf}
 use Rattle.history.specs.History.{Call, callInput, callSend, callMoveBuf, callPeeksize, callRecv, callSetWndsize, callSetMtu, callSetInterval, callSetNodelay, callSetRxMinrto, callSetFastResend, callSetMaximumResendTimes, callInputConv, callSetConv, callGet, listsOf, Memory, withBlock, leaves, seenIn, unlessBad, events}
 use Rattle.history.specs.Pushes.{pushesOf}
 use Rattle.history.proofs.Segments.{pick-of}

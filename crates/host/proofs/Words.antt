@@ -19,7 +19,6 @@ use Rattle.block.specs.Sizes.{mtuSize, mssOf}
 use Rattle.block.specs.Parts.{withSettings, withMtu}
 use Rattle.block.specs.Setters.{setMtu, setInterval, setNodelay, setRxMinrto, setFastResend, setMaximumResendTimes, inputConv, setConv}
 use Rattle.words.specs.Words.{at, wordsOf, blockOf, isBlock, withFlags, withMtuWords, withNodelayWords}
-use Rattle.words.proofs.Tests.{block-length}
 use Rattle.words.proofs.Back.{words-back}
 use Rattle.host.specs.Words.{setWords, WordsSet, canMake, WordsMade}
 
@@ -42,9 +41,6 @@ module _ (f : Kcp → Kcp) (n : ℕ) (l : List ℕ) where
         refusal = d ∙ sym (pick-true n 15 held);
         words = c ∙ ap x (sym (words-back l held w)) ∙ s ∙ sym (pick-true (wordsOf (f (blockOf l))) l held);
       }
-
-pub held-length : (l : List ℕ) {t : Bool} → t ≡ isBlock l → not t ≡ false → length l ≡ 35
-held-length l {t} e h = block-length l (sym e ∙ not-false t h)
 
 pub nodelay-put : (l : List ℕ) (nodelay : Bool) (interval resend : ℤ) (nc : Bool) {m : List ℕ} {x b : Kcp} → m ≡ withNodelayWords x l → x ≡ setNodelay b nodelay interval resend nc → b ≡ blockOf l
     → m ≡ withNodelayWords (setNodelay (blockOf l) nodelay interval resend nc) l

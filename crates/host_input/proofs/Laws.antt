@@ -15,7 +15,6 @@ use Rattle.block.specs.declared.refusal.Refusal.{Refusal}
 use Rattle.block.specs.declared.refusal.Values.{Values}
 use Rattle.block.specs.Refusals.{numberOfBytes, valuesOf, rowOf}
 use Rattle.words.specs.Words.{wordsOf, blockOf, isBlock}
-use Rattle.words.proofs.Tests.{block-length}
 use Rattle.host.specs.Words.{setWords}
 use Rattle.input.specs.Datagram.{ReadOut}
 use Rattle.kcp_input.specs.Input.{inputOf}
@@ -27,9 +26,6 @@ values-counted e = ap valuesIn (sym e)
 
 pub values-refused : {a : Bytes} {why : Refusal} {v : Values} → a ≡ Refused why → v ≡ rowOf (valuesOf why) → (v .first ∷ v .second ∷ []) ≡ valuesIn a
 values-refused e f = ap (λ (v : Values). v .first ∷ v .second ∷ []) f ∙ ap valuesIn (sym e)
-
-pub held-length : (l : List ℕ) {t : Bool} → t ≡ isBlock l → not t ≡ false → length l ≡ 35
-held-length l {t} e h = block-length l (sym e ∙ not-false t h)
 
 module _ (rcv : Lists) (acks waiting : List ℕ) (snd : Lists) (s l : List ℕ) {t : Bool} (e : t ≡ isBlock l) where
   -- the words are no block

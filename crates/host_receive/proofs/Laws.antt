@@ -11,7 +11,6 @@ use Rattle.block.specs.declared.Kcp.{Kcp}
 use Rattle.block.specs.declared.set.Set.{Set}
 use Rattle.block.specs.Refusals.{numberOfAnswer}
 use Rattle.words.specs.Words.{at, wordsOf, blockOf, isBlock, withRcvWords, withWindows}
-use Rattle.words.proofs.Tests.{block-length}
 use Rattle.words.proofs.Back.{words-back}
 use Rattle.host.specs.Words.{setWords}
 use Rattle.block.specs.declared.refusal.Refusal.{Refusal}
@@ -51,9 +50,6 @@ module _ (l : List ℕ) {t : Bool} (e : t ≡ isBlock l) where
   module _ (h : not t ≡ false) where
     is : isBlock l ≡ true
     is = sym e ∙ not-false t h
-
-    pub held-length : length l ≡ 35
-    held-length = block-length l is
 
     -- the block b
     module _ {b : Kcp} (held : b ≡ blockOf l) where

@@ -16,7 +16,6 @@ use Rattle.block.specs.Refusals.{numberOfBytes}
 use Rattle.transmit.specs.Fits.{sendFits}
 use Rattle.send.proofs.Keep.{send-beside}
 use Rattle.words.specs.Words.{at, wordsOf, blockOf, isBlock, withSndWords}
-use Rattle.words.proofs.Tests.{block-length}
 use Rattle.words.proofs.Back.{words-back}
 use Rattle.host.specs.Words.{setWords}
 use Rattle.kcp_send.specs.Send.{SendOut, sendOf}
@@ -47,9 +46,6 @@ ring-words k r = refl
 module _ (l : List ℕ) {t : Bool} (e : t ≡ isBlock l) where
   held : not t ≡ false → isBlock l ≡ true
   held h = sym e ∙ not-false t h
-
-  pub held-length : not t ≡ false → length l ≡ 35
-  held-length h = block-length l (held h)
 
   module _ (p : Lists) (bytes : List ℕ) (n : ℕ) where
     -- they are none

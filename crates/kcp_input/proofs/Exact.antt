@@ -8,10 +8,8 @@ use lib.ListN.{length}
 use borrow.Author.Tests.{not-true, not-false}
 use Rattle.ring.specs.Lists.{Lists}
 use Rattle.block.specs.declared.Kcp.{Kcp}
-use Rattle.block.specs.declared.acklist.AckList.{AckList}
-use Rattle.block.specs.Sizes.{AckSizes, pairs}
-use Rattle.block.specs.WellFormed.{ownNumbers}
-use Rattle.block.proofs.Exact.{Exactly, exactly-le, exactly-both, exactly-as, ack-sizes, own-numbers}
+use Rattle.block.specs.WellFormed.{ownNumbers, ackLent}
+use Rattle.block.proofs.Exact.{Exactly, exactly-both, exactly-as, acks-exactly, own-numbers}
 use Rattle.block.proofs.Together.{goes, stops}
 use Rattle.receive.specs.Fits.{receiveLent, Good}
 use Rattle.receive.proofs.Exact.{lent-good}
@@ -19,11 +17,7 @@ use Rattle.receive.proofs.Exact as Receive
 use Rattle.transmit.specs.Fits.{sendLent, Lies}
 use Rattle.transmit.proofs.Exact.{sound-of, lies-of}
 use Rattle.transmit.proofs.Exact as Send
-use Rattle.kcp_input.specs.Input.{ackLent, inputFits, InputFits}
-
-pub acks-exactly : (a : AckList) (acks waiting : List ℕ) → Exactly (ackLent a acks waiting) (AckSizes (length acks) (length waiting) × (a .acks ≤ pairs (length acks)))
-unfolding ackLent
-acks-exactly a acks waiting = exactly-both (ack-sizes (length acks) (length waiting)) (exactly-le (a .acks) (pairs (length acks)))
+use Rattle.kcp_input.specs.Input.{inputFits, InputFits}
 
 module _ (k : Kcp) (rcv : Lists) (acks waiting : List ℕ) (snd : Lists) where
   pub exactly : Exactly (inputFits k rcv acks waiting snd) (InputFits k rcv acks waiting snd)

@@ -10,23 +10,18 @@ use Rattle.serial.specs.Branch.{pick}
 use Rattle.ring.specs.Lists.{Lists}
 use Rattle.snd_ring.specs.Store.{Store, storeOf}
 use Rattle.block.specs.declared.Kcp.{Kcp}
-use Rattle.block.specs.declared.acklist.AckList.{AckList}
 use Rattle.block.specs.declared.refusal.Refusal.{Refusal}
 use Rattle.block.specs.declared.refusal.Refusal.the-variants.{BadPool, DatagramTooBig, InvalidSegmentSize}
 use Rattle.block.specs.declared.refusal.Bytes.the-variants.{Refused}
 use Rattle.block.specs.Refusals.{numberOfBytes, valuesOfBytes}
-use Rattle.block.specs.Sizes.{ackSizes, AckSizes, pairs}
-use Rattle.block.specs.WellFormed.{ownNumbers, OwnNumbers, ackNumbers}
+use Rattle.block.specs.Sizes.{AckSizes, pairs}
+use Rattle.block.specs.WellFormed.{ownNumbers, OwnNumbers, ackLent}
 use Rattle.receive.specs.Fits.{receiveLent, ReceiveLent}
 use Rattle.transmit.specs.Fits.{sendLent, SendLent}
 use Rattle.input.specs.Segment.{End}
 use Rattle.input.specs.Datagram.{ReadOut, readAt, endOf, numberOfEnd, valuesOfEnd}
 
 -- ---- "15 | block or lent memory not well formed, or a size outside the limits"
-
--- the limits of the ack memory, and "at most A acks"
-unfoldable pub ackLent : AckList → List ℕ → List ℕ → Bool
-ackLent a acks waiting = ackSizes (length acks) (length waiting) && ackNumbers (pairs (length acks)) a
 
 unfoldable pub inputFits : Kcp → Lists → List ℕ → List ℕ → Lists → Bool
 inputFits k rcv acks waiting snd = ownNumbers k && (receiveLent (k .receiver) rcv && (sendLent (k .sender) snd && ackLent (k .acklist) acks waiting))

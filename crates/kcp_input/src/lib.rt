@@ -4,23 +4,11 @@ ghost use mathlib.Core.Bool.{true};
 ghost use Rattle.ring.specs.Lists.{lists};
 ghost use Rattle.snd_ring.specs.Store.{storeOf};
 ghost use Rattle.block.specs.declared.refusal.Bytes.the-variants.{Refused as Unread};
-ghost use Rattle.kcp_input.specs.Input.{ackLent, inputFits, InputFits, Inputs};
+ghost use Rattle.kcp_input.specs.Input.{inputFits, InputFits, Inputs};
 use block::Kcp;
-use block::acklist::AckList;
 use block::refusal::Bytes;
 use block::refusal::Refusal;
-use block::sizes::ack_sizes;
 use input::Outcome;
-
-// Whether an ack memory is within the limits and holds the acks that the block counts.
-fn ack_fits(acklist: AckList, acks: &[u32], waiting: &[u8]) -> bool
-    ensures { λ r. ⌜ r ≡ ackLent acklist (now (acks .entry)) (now (waiting .entry)) ⌝ }
-{
-    if ack_sizes(acks.len(), waiting.len()) {
-        return acklist.ack_numbers(acks.len() / Kcp::ACK_PAIR);
-    }
-    false
-}
 
 // Whether the block and all that input is lent are well formed.
 fn fits(
@@ -44,7 +32,7 @@ fn fits(
     if !transmit::lent_fits(block.sender, snd_records, snd_room) {
         return false;
     }
-    ack_fits(block.acklist, acks, waiting)
+    block.acklist.lent_fits(acks, waiting)
 }
 
 // An input that was refused before any segment was read: all as it was, and none skipped.

@@ -1,10 +1,10 @@
 -- Which words are those of a block: the test as facts, both ways. Assumes nothing.
 use Prim.Native.Nat.{ℕ, _<_}
-use mathlib.Core.Path.{_≡_, refl}
-use mathlib.Core.Bool.{Bool, true, false}
+use mathlib.Core.Path.{_≡_, refl, sym, _∙_}
+use mathlib.Core.Bool.{Bool, true, false, not}
 use mathlib.Core.List.{List}
 use lib.ListN.{length}
-use borrow.Author.Tests.{eq-eqb, ne-eqb}
+use borrow.Author.Tests.{eq-eqb, ne-eqb, not-false}
 use lib.Dec.{ltb}
 use Rattle.block.proofs.Exact.{Exactly, exactly-eq, exactly-lt, exactly-both}
 use Rattle.words.specs.Words.{at, isBlock}
@@ -15,6 +15,10 @@ exactly-block l = exactly-both (exactly-eq (length l) 35) (exactly-lt (at l 0) 6
 
 pub block-length : (l : List ℕ) → isBlock l ≡ true → length l ≡ 35
 block-length l h = exactly-block l .holds h .0
+
+-- the same where the code asked whether the test t of it fails
+pub held-length : (l : List ℕ) {t : Bool} → t ≡ isBlock l → not t ≡ false → length l ≡ 35
+held-length l {t} e h = block-length l (sym e ∙ not-false t h)
 
 -- ---- `is_block`
 

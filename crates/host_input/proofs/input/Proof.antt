@@ -1,6 +1,7 @@
 -- `host_input::input` meets its contract: the law of words that are no block, and of those that are. Assumes nothing.
 use Rattle.ring.specs.Lists.{lists}
-use Rattle.host_input.proofs.Laws.{held-length, read-none, read-done}
+use Rattle.words.proofs.Tests.{held-length}
+use Rattle.host_input.proofs.Laws.{read-none, read-done}
 use borrow.Author.Needs.{needs}
 use Rattle.host_input.proofs.input.Statement.{statement}
 use Rattle.host_input.proofs.input.Tie as tie

@@ -1,7 +1,8 @@
 -- `host_receive::move_buf` meets its contract: the law of words that are no block, and of those that are. Assumes nothing.
 use native.Mathlib.Omega.{arith}
 use Rattle.ring.specs.Lists.{lists}
-use Rattle.host_receive.proofs.Laws.{called-none, held-length, moved}
+use Rattle.words.proofs.Tests.{held-length}
+use Rattle.host_receive.proofs.Laws.{called-none, moved}
 use borrow.Author.Needs.{needs}
 use Rattle.host_receive.proofs.move_buf.Statement.{statement}
 use Rattle.host_receive.proofs.move_buf.Tie as tie

@@ -1,6 +1,7 @@
 -- `host_receive::peeksize` meets its contract: the law of words that are no block, and of those that are. Assumes nothing.
 use Rattle.ring.specs.Lists.{lists}
-use Rattle.host_receive.proofs.Laws.{peeked-none, held-length, peeked}
+use Rattle.words.proofs.Tests.{held-length}
+use Rattle.host_receive.proofs.Laws.{peeked-none, peeked}
 use borrow.Author.Needs.{needs}
 use Rattle.host_receive.proofs.peeksize.Statement.{statement}
 use Rattle.host_receive.proofs.peeksize.Tie as tie

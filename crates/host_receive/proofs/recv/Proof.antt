@@ -2,7 +2,8 @@
 use native.Mathlib.Omega.{arith}
 use mathlib.Core.Path.{_∙_}
 use Rattle.ring.specs.Lists.{lists}
-use Rattle.host_receive.proofs.Laws.{received-none, held-length, refused, received}
+use Rattle.words.proofs.Tests.{held-length}
+use Rattle.host_receive.proofs.Laws.{received-none, refused, received}
 use borrow.Author.Needs.{needs}
 use Rattle.host_receive.proofs.recv.Statement.{statement}
 use Rattle.host_receive.proofs.recv.Tie as tie

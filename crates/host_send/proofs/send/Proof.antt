@@ -2,7 +2,8 @@
 use native.Mathlib.Omega.{arith}
 use Rattle.ring.specs.Lists.{lists}
 use Rattle.snd_ring.specs.Store.{storeOf}
-use Rattle.host_send.proofs.Laws.{held-length, sent-none, sent-words}
+use Rattle.words.proofs.Tests.{held-length}
+use Rattle.host_send.proofs.Laws.{sent-none, sent-words}
 use borrow.Author.Needs.{needs}
 use Rattle.host_send.proofs.send.Statement.{statement}
 use Rattle.host_send.proofs.send.Tie as tie

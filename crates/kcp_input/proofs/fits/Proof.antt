@@ -26,11 +26,11 @@ lent-fits-requires-2 c κs = search needs
 returns-3 : tie.Need-returns-3
 returns-3 c = let a = c .before .before .before .before .before .before .before .before .before .before .before .before .args in bad-send (a .block) (lists (a .rcv-records .now) (a .rcv-room .now)) (a .acks .now) (a .waiting .now) (lists (a .snd-records .now) (a .snd-room .now)) (c .before .before .before .before .before .own-numbers .ensures) (c .before .before .before .before .if1 .left) (c .before .before .before .lent-fits .ensures) (c .before .before .if2 .left) (c .before .lent-fits2 .ensures) (c .if3 .taken)
 
-ack-fits-requires : tie.Need-ack-fits-requires
-ack-fits-requires c κs = search needs
+lent-fits-requires-3 : tie.Need-lent-fits-requires-3
+lent-fits-requires-3 c κs = search needs
 
 returns-4 : tie.Need-returns-4
-returns-4 c = let a = c .before .before .before .before .before .before .before .before .before .before .before .before .before .args in by-acks (a .block) (lists (a .rcv-records .now) (a .rcv-room .now)) (a .acks .now) (a .waiting .now) (lists (a .snd-records .now) (a .snd-room .now)) (c .before .before .before .before .before .before .own-numbers .ensures) (c .before .before .before .before .before .if1 .left) (c .before .before .before .before .lent-fits .ensures) (c .before .before .before .if2 .left) (c .before .before .lent-fits2 .ensures) (c .before .if3 .left) (c .ack-fits .ensures)
+returns-4 c = let a = c .before .before .before .before .before .before .before .before .before .before .before .before .before .args in by-acks (a .block) (lists (a .rcv-records .now) (a .rcv-room .now)) (a .acks .now) (a .waiting .now) (lists (a .snd-records .now) (a .snd-room .now)) (c .before .before .before .before .before .before .own-numbers .ensures) (c .before .before .before .before .before .if1 .left) (c .before .before .before .before .lent-fits .ensures) (c .before .before .before .if2 .left) (c .before .before .lent-fits2 .ensures) (c .before .if3 .left) (c .lent-fits3 .ensures)
 
 pub fits-spec : {M : Type 1} → statement M
 fits-spec =
@@ -42,5 +42,5 @@ fits-spec =
     returns-2
     lent-fits-requires-2
     returns-3
-    ack-fits-requires
+    lent-fits-requires-3
     returns-4)

@@ -10,19 +10,19 @@ after-change-requires c κs = search needs
 timed-out-requires : tie.Need-timed-out-requires
 timed-out-requires c κs = search needs
 
-opened-requires : tie.Need-opened-requires
-opened-requires c κs = search needs
+at-least-one-requires : tie.Need-at-least-one-requires
+at-least-one-requires c κs = search needs
 
 returns : tie.Need-returns
 returns c =
-    let a = c .before .before .before .before .args in after-loss (a .mss) (a .inflight) (a .resent) (a .window) (a .change) (a .lost) (a .congestion) _ (c .before .before .before .after-change .ensures) _ _ (c .before .before .if1 .taken) (c .before .timed-out .ensures) (c .opened .ensures)
+    let a = c .before .before .before .before .args in after-loss (a .mss) (a .inflight) (a .resent) (a .window) (a .change) (a .lost) (a .congestion) _ (c .before .before .before .after-change .ensures) _ _ (c .before .before .if1 .taken) (c .before .timed-out .ensures) (c .at-least-one .ensures)
 
-opened-requires-2 : tie.Need-opened-requires-2
-opened-requires-2 c κs = search needs
+at-least-one-requires-2 : tie.Need-at-least-one-requires-2
+at-least-one-requires-2 c κs = search needs
 
 returns-2 : tie.Need-returns-2
 returns-2 c =
-    let a = c .before .before .before .args in after-none (a .mss) (a .inflight) (a .resent) (a .window) (a .change) (a .lost) (a .congestion) _ (c .before .before .after-change .ensures) _ (c .before .if1 .left) (c .opened2 .ensures)
+    let a = c .before .before .before .args in after-none (a .mss) (a .inflight) (a .resent) (a .window) (a .change) (a .lost) (a .congestion) _ (c .before .before .after-change .ensures) _ (c .before .if1 .left) (c .at-least-one2 .ensures)
 
 pub congestion-after-spec : {M : Type 1} → statement M
 congestion-after-spec =
@@ -30,7 +30,7 @@ congestion-after-spec =
     (tie.spec
     after-change-requires
     timed-out-requires
-    opened-requires
+    at-least-one-requires
     returns
-    opened-requires-2
+    at-least-one-requires-2
     returns-2)

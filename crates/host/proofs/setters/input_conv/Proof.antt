@@ -3,7 +3,8 @@ use native.Mathlib.Omega.{arith}
 use mathlib.Core.Path.{refl}
 use Rattle.block.specs.Setters.{inputConv}
 use Rattle.words.specs.Words.{blockOf, withFlags}
-use Rattle.host.proofs.Words.{set-refused, set-done, held-length, await-words}
+use Rattle.words.proofs.Tests.{held-length}
+use Rattle.host.proofs.Words.{set-refused, set-done, await-words}
 use borrow.Author.Needs.{needs}
 use Rattle.host.proofs.setters.input_conv.Statement.{statement}
 use Rattle.host.proofs.setters.input_conv.Tie as tie

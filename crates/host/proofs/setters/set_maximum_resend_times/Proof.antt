@@ -5,7 +5,8 @@ use mathlib.Core.Path.{refl, ap, _∙_}
 use lib.ListN.{set}
 use Rattle.block.specs.Setters.{setMaximumResendTimes}
 use Rattle.words.specs.Words.{blockOf}
-use Rattle.host.proofs.Words.{set-refused, set-done, held-length, dead-words}
+use Rattle.words.proofs.Tests.{held-length}
+use Rattle.host.proofs.Words.{set-refused, set-done, dead-words}
 use borrow.Author.Needs.{needs}
 use Rattle.host.proofs.setters.set_maximum_resend_times.Statement.{statement}
 use Rattle.host.proofs.setters.set_maximum_resend_times.Tie as tie

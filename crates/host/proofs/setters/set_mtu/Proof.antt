@@ -6,7 +6,8 @@ use Rattle.block.specs.declared.set.Set.{Set}
 use Rattle.block.specs.Sizes.{mtuSize}
 use Rattle.block.specs.Setters.{setMtu}
 use Rattle.words.specs.Words.{blockOf, withMtuWords}
-use Rattle.host.proofs.Words.{set-refused, set-done, held-length, mtu-words}
+use Rattle.words.proofs.Tests.{held-length}
+use Rattle.host.proofs.Words.{set-refused, set-done, mtu-words}
 use borrow.Author.Needs.{needs}
 use Rattle.host.proofs.setters.set_mtu.Statement.{statement}
 use Rattle.host.proofs.setters.set_mtu.Tie as tie

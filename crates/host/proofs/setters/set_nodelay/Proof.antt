@@ -5,7 +5,8 @@ use mir.Syntax.{w32}
 use mir.Facts.{toZ-ofZ}
 use Rattle.block.specs.Setters.{setNodelay}
 use Rattle.words.specs.Words.{blockOf, withNodelayWords}
-use Rattle.host.proofs.Words.{set-refused, set-done, held-length, nodelay-words, nodelay-put}
+use Rattle.words.proofs.Tests.{held-length}
+use Rattle.host.proofs.Words.{set-refused, set-done, nodelay-words, nodelay-put}
 use borrow.Author.Needs.{needs}
 use Rattle.host.proofs.setters.set_nodelay.Statement.{statement}
 use Rattle.host.proofs.setters.set_nodelay.Tie as tie

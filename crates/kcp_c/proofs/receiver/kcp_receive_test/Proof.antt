@@ -5,7 +5,7 @@ use Rattle.serial.specs.Branch.{pick-true, pick-false}
 use Rattle.ring.specs.Lists.{lists}
 use Rattle.receive.proofs.Exact.{fits-tested, own-receiver}
 use Rattle.receive.specs.Fits.{receiveFits}
-use Rattle.host_receive.proofs.Laws.{held-length}
+use Rattle.words.proofs.Tests.{held-length}
 use Rattle.kcp_c.proofs.Laws.{tested-none, tested-by}
 use Rattle.kcp_c.proofs.receiver.kcp_receive_test.Statement.{statement}
 use Rattle.kcp_c.proofs.receiver.kcp_receive_test.Tie as tie

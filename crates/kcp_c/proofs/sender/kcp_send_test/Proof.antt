@@ -5,7 +5,7 @@ use Rattle.serial.specs.Branch.{pick-true, pick-false}
 use Rattle.ring.specs.Lists.{lists}
 use Rattle.transmit.proofs.Exact.{fits-tested}
 use Rattle.transmit.specs.Fits.{sendFits}
-use Rattle.host_receive.proofs.Laws.{held-length}
+use Rattle.words.proofs.Tests.{held-length}
 use Rattle.kcp_c.proofs.Laws.{tested-none, tested-by}
 use Rattle.kcp_c.proofs.sender.kcp_send_test.Statement.{statement}
 use Rattle.kcp_c.proofs.sender.kcp_send_test.Tie as tie

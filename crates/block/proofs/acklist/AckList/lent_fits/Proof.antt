@@ -1,10 +1,10 @@
--- `kcp_input::ack_fits` meets its contract. Assumes nothing.
+-- `block::acklist::AckList::lent_fits` meets its contract. Assumes nothing.
 use mathlib.Core.Path.{sym, _∙_}
 use Rattle.block.proofs.Together.{goes, stops}
-use Rattle.kcp_input.specs.Input.{ackLent}
+use Rattle.block.specs.WellFormed.{ackLent}
 use borrow.Author.Needs.{needs}
-use Rattle.kcp_input.proofs.ack_fits.Statement.{statement}
-use Rattle.kcp_input.proofs.ack_fits.Tie as tie
+use Rattle.block.proofs.acklist.AckList.lent_fits.Statement.{statement}
+use Rattle.block.proofs.acklist.AckList.lent_fits.Tie as tie
 
 ack-sizes-requires : tie.Need-ack-sizes-requires
 ack-sizes-requires c κs = search needs
@@ -20,5 +20,5 @@ returns-2 : tie.Need-returns-2
 unfolding ackLent
 returns-2 c = stops _ (sym (c .before .ack-sizes .ensures) ∙ c .if1 .left)
 
-pub ack-fits-spec : {M : Type 1} → statement M
-ack-fits-spec = tie.close (tie.spec ack-sizes-requires ack-numbers-requires returns returns-2)
+pub lent-fits-spec : {M : Type 1} → statement M
+lent-fits-spec = tie.close (tie.spec ack-sizes-requires ack-numbers-requires returns returns-2)
