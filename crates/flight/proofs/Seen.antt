@@ -141,10 +141,10 @@ module _ (s : Sender) (m : Store) (o : Sound 8 (s .ring) m) where
       marked = record {
         fit = λ i a. o .marked .fit i (omega arith);
         waits = λ i a b. o .marked .waits i (omega arith) (omega arith);
-        withSent =
+        counted =
             let z : 0 + reach ≡ reach = omega arith in
             let a = rw z at (count-add 1 (m .marks) start 0 reach k) in
-            let b = o .marked .withSent in
+            let b = o .marked .counted in
             let c = all-wait in
             omega arith;
         normal = λ a z. first (ℕ-discrete reach 0) a z;

@@ -46,7 +46,7 @@ mark-at a e q h room = mark-read 8 a room q 0 (omega arith)
 -- no more are in flight than the indices
 pub flying-few : {s : Sender} {a : List ℕ} → Lies s a → s .ring .flying ≤ s .ring .reach
 flying-few {s} {a} l =
-    let e = l .sound .marked .withSent in
+    let e = l .sound .marked .counted in
     let h = count-le 1 (storeOf 8 (lists a (l .room)) .marks) (s .ring .start) 0 (s .ring .reach) in
     omega arith
 

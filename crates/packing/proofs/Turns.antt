@@ -5,7 +5,7 @@ use native.Mathlib.Nat.{add-assoc, add-zero}
 use native.Mathlib.Omega.{arith}
 use mathlib.Core.Path.{_≡_, refl, sym, ap, _∙_}
 use mathlib.Core.Bool.{Bool, true, false}
-use mathlib.Core.List.{List, [], _∷_, _++_, map, append-assoc, append-nil}
+use mathlib.Core.List.{List, [], _∷_, _++_, map, map-append, append-assoc, append-nil}
 use lib.ListN.{length, length-append}
 use lib.Dec.{ltb}
 use borrow.Author.Tests.{lt-ltb, le-ltb}
@@ -13,7 +13,7 @@ use Rattle.serial.specs.Branch.{pick}
 use Rattle.ring.specs.Records.{put}
 use Rattle.ring.proofs.Rows.{put-put}
 use Rattle.flushing.specs.Pack.{flat, sumOf, datagramSize, goesSize, staysSize, packSizes, packAllSizes}
-use Rattle.flushing.proofs.Packing.{AtMost, flat-append, map-append, length-flat, sum-append, sizes-sum, all-sum, rest-most}
+use Rattle.flushing.proofs.Packing.{AtMost, flat-append, length-flat, sum-append, sizes-sum, all-sum, rest-most}
 use Rattle.packing.specs.declared.packer.Packer.{Packer}
 use Rattle.packing.specs.Packer.{sized, closed}
 use Rattle.packing.proofs.Laying.{Laying, laying-start, laying-length, laying-fits, laying-on, laying-end}
@@ -275,7 +275,7 @@ module _ {mtu : ℕ} {p : Packer} {out l : List ℕ} {r : Packer} {o m : List �
   packing-stage ps qs q b n g a e f h =
       let s = ap (λ (x : Packer). x .start + x .used) e ∙ sized-sum mtu p (map length ps) ∙ ap (λ (x : ℕ). p .start + p .used + x) (sym (length-flat ps)) in
       record {
-        cutting = cutting-stage (map length ps) (map length qs) q n (rw (map-append ps qs) at (g .cutting)) a e h;
+        cutting = cutting-stage (map length ps) (map length qs) q n (rw (map-append length ps qs) at (g .cutting)) a e h;
         bytes = laying-on (flat ps) (flat qs) b (q .start + q .used) (rw (flat-append ps qs) at (g .bytes)) f s;
       }
 

@@ -1,6 +1,6 @@
 -- `flight::launch` meets its contract. Assumes nothing.
 use native.Mathlib.Omega.{arith}
-use Rattle.transmit.proofs.Steps.{askSet}
+use Rattle.transmit.proofs.Steps.{asks}
 use Rattle.flight.proofs.Steps.{flying-few, launch-done}
 use borrow.Author.Needs.{needs}
 use Rattle.flight.proofs.launch.Statement.{statement}
@@ -11,7 +11,7 @@ slots-in-requires c κs = search needs
 
 launch-rows-requires : tie.Need-launch-rows-requires
 launch-rows-requires c κs =
-    let w = askSet (c .before .before .before .before .pre .0) in
+    let w = asks (c .before .before .before .before .pre .0) in
     (omega arith, (omega arith, (omega arith, omega arith)))
 
 add-requires : tie.Need-add-requires
@@ -19,12 +19,12 @@ add-requires c κs = search needs
 
 add-t14 : tie.Need-add-t14
 add-t14 c =
-    let w = askSet (c .before .before .before .before .before .before .before .before .before .pre .0) in
+    let w = asks (c .before .before .before .before .before .before .before .before .before .pre .0) in
     omega arith
 
 add-t15 : tie.Need-add-t15
 add-t15 c =
-    let w = askSet (c .before .before .before .before .before .before .before .before .before .before .pre .0) in
+    let w = asks (c .before .before .before .before .before .before .before .before .before .before .pre .0) in
     let f = flying-few (c .before .before .before .before .before .before .before .before .before .before .pre .0) in
     omega arith
 

@@ -31,8 +31,8 @@ number-at-requires c κs = omega arith
 number-at-requires-2 : tie.Need-number-at-requires-2 Inv-loop μ-loop
 number-at-requires-2 c κs = omega arith
 
-short-header-requires : tie.Need-short-header-requires Inv-loop μ-loop
-short-header-requires c κs = search needs
+bare-head-requires : tie.Need-bare-head-requires Inv-loop μ-loop
+bare-head-requires c κs = search needs
 
 put-header-requires : tie.Need-put-header-requires Inv-loop μ-loop
 put-header-requires c κs =
@@ -62,7 +62,7 @@ loop-again c =
       acks-on (args .told) (args .acks .now) _ _ _ _ (loop .inv .1) (c .before .before .before .before .before .before .before .loop-test .taken)
           (c .before .before .before .before .before .before .number-at .ensures)
           (c .before .before .before .before .before .number-at2 .ensures)
-          (c .before .before .before .before .short-header .ensures)
+          (c .before .before .before .before .bare-head .ensures)
           (c .before .before .put-header .ensures),
     )
 
@@ -85,7 +85,7 @@ put-acks-spec =
     loop-holds
     number-at-requires
     number-at-requires-2
-    short-header-requires
+    bare-head-requires
     put-header-requires
     add-end
     add-i
