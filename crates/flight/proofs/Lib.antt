@@ -6,4 +6,4 @@ pub mod Rows
 pub mod Walks
 pub mod Seen
 pub mod Out
-mod Steps
+pub mod Steps

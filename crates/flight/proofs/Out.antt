@@ -3,7 +3,7 @@
 use Prim.Native.Nat.{ℕ, zero, suc, _+_, _-_, _*_, _≤_, _<_}
 use native.Mathlib.Omega.{arith}
 use mathlib.Core.Path.{_≡_, refl, sym, ap, _∙_}
-use mathlib.Core.Bool.{Bool, true, false}
+use mathlib.Core.Bool.{Bool, true, false, not, _&&_}
 use mathlib.Core.List.{List, [], _∷_, _++_, map, append-assoc}
 use lib.ListN.{length, getD, take}
 use borrow.Author.Tests.{eq-eqb, ne-eqb}
@@ -23,9 +23,9 @@ use Rattle.flushing.specs.declared.headers.Told.{Told}
 use Rattle.flushing.specs.Due.{dueOf, flownBy, goesOut, withSent}
 use Rattle.flushing.specs.Pieces.{Piece, pieceBytes, pieceSize, recordOf, sentOut, pushPiece, numberedFrom, duePieces, tallied}
 use Rattle.flushing.proofs.Calls.{piece-sizes}
-use Rattle.flight.specs.Places.{over}
-use Rattle.flight.specs.Memory.{recordIn, renewedAt, markIn, flightPlaces, waitingPlaces, launchedSender, launchedAt, flownAt, flownOver, talliedAt, tallyOver, goesAt, sizeIn, sizeAt, sizesOver, freshSizes, bytesIn, pieceAt, piecesOver, resendtsAt, resendtsOver}
-use Rattle.flight.proofs.Places.{Each, Below, Apart, Once, over-first, over-apart}
+use Rattle.flight.specs.Places.{over, Each}
+use Rattle.flight.specs.Memory.{recordIn, renewedAt, markIn, isGap, flightPlaces, waitingPlaces, launchedSender, launchedAt, flownAt, flownOver, talliedAt, tallyOver, goesAt, sizeIn, sizeAt, sizesOver, freshSizes, bytesIn, pieceAt, piecesOver, resendtsAt, resendtsOver}
+use Rattle.flight.proofs.Places.{Below, Apart, Once, over-first, over-append, over-apart}
 use Rattle.flight.proofs.Rows.{record-is}
 use Rattle.flight.proofs.Walks.{segmentsAt, segments-gap, segments-live, flown-gap, flown-marks, flown-sized, flown-other}
 use Rattle.flight.proofs.Seen.{flight-below, flight-once, flight-fit, flight-segments, leavers-live, leavers-fit, leavers-below, leavers-seen, launched-sound, seen-launched}
@@ -33,11 +33,19 @@ use Rattle.flight.proofs.Seen.{flight-below, flight-once, flight-fit, f
 -- ---- one place
 
 module _ (pace : Pace) (m : Store) (q : ℕ) where
-  goes-gap : markIn m q ≡ 0 → goesAt pace m q ≡ false
+  pub goes-gap : markIn m q ≡ 0 → goesAt pace m q ≡ false
   unfolding goesAt
   goes-gap h = rw (eq-eqb (markIn m q) 0 h)
 
-  goes-live : (markIn m q ≡ 0 → ⊥) → goesAt pace m q ≡ goesOut (dueOf pace (recordIn m q))
+  pub goes-idle : goesOut (dueOf pace (recordIn m q)) ≡ false → goesAt pace m q ≡ false
+  unfolding goesAt
+  goes-idle h = rw h (none (not (isGap m q)))
+    where
+      none : (t : Bool) → (t && false) ≡ false
+      none true = refl
+      none false = refl
+
+  pub goes-live : (markIn m q ≡ 0 → ⊥) → goesAt pace m q ≡ goesOut (dueOf pace (recordIn m q))
   unfolding goesAt
   goes-live h = rw (ne-eqb (markIn m q) 0 h)
 
@@ -57,6 +65,20 @@ module _ (pace : Pace) (m : Store) (q : ℕ) where
     ahead qs a =
         ap (map segmentOf)
         (over-apart (cell 8 (flownAt pace m q)) (cell 8 m) q qs a (λ t d. rw (← at-one) (flown-other pace (q ∷ []) m z (h, tt) t (λ e. d (sym e), tt))))
+
+-- the sizes, one place less
+module _ (pace : Pace) where
+  pub sizes-none : (m : Store) → sizesOver pace [] m ≡ []
+  unfolding sizesOver over
+  sizes-none m = refl
+
+  pub sizes-first : (q : ℕ) (qs : List ℕ) (m : Store) → sizesOver pace (q ∷ qs) m ≡ sizeAt pace m q ++ sizesOver pace qs m
+  unfolding sizesOver
+  sizes-first q qs m = over-first (sizeAt pace m) q qs
+
+  pub sizes-append : (a b : List ℕ) (m : Store) → sizesOver pace (a ++ b) m ≡ sizesOver pace a m ++ sizesOver pace b m
+  unfolding sizesOver
+  sizes-append a b m = over-append (sizeAt pace m) a b
 
 -- how long its payload is
 pub payload-length : (m : Store) → Sized 8 m → (q : ℕ) → q < length (m .marks) → markIn m q ≤ 1477 → length (segmentAt 8 m q .payload) ≡ markIn m q - 1
@@ -113,6 +135,13 @@ module _ (told : Told) (pace : Pace) where
   unfolding piecesOver
   pieces-first q qs m = refl
 
+  pub pieces-append : (a b : List ℕ) (m : Store) → piecesOver told pace (a ++ b) m ≡ piecesOver told pace a m ++ piecesOver told pace b (flownOver pace a m)
+  unfolding piecesOver flownOver
+  pieces-append [] b m = refl
+  pieces-append (q ∷ a) b m =
+      ap (λ (l : List (List ℕ)). pieceAt told pace m q ++ l) (pieces-append a b (flownAt pace m q))
+      ∙ sym (append-assoc (pieceAt told pace m q) (piecesOver told pace a (flownAt pace m q)) (piecesOver told pace b (flownOver pace a (flownAt pace m q))))
+
   segments-none : (m : Store) → segmentsAt m [] ≡ []
   unfolding over
   segments-none m = refl
@@ -129,20 +158,12 @@ module _ (told : Told) (pace : Pace) where
       (λ h _. rw (piece-gap m q h, on, segments-gap m q qs h))
       (λ h _. rw (piece-live m q h, on, segments-live m q qs h, due-first pieceBytes, bytes-are m q z (b .0) (f .0), record-is m q))
 
-  sizes-none : (m : Store) → sizesOver pace [] m ≡ []
-  unfolding sizesOver over
-  sizes-none m = refl
-
-  pub sizes-first : (q : ℕ) (qs : List ℕ) (m : Store) → sizesOver pace (q ∷ qs) m ≡ sizeAt pace m q ++ sizesOver pace qs m
-  unfolding sizesOver
-  sizes-first q qs m = over-first (sizeAt pace m) q qs
-
   pub sizes-are : (qs : List ℕ) (m : Store) → Sized 8 m → Below (length (m .marks)) qs → Each (λ (q : ℕ). markIn m q ≤ 1477) qs
       → sizesOver pace qs m ≡ map pieceSize (duePieces told pace (segmentsAt m qs))
-  sizes-are [] m z b f = rw (sizes-none m, segments-none m, due-none)
+  sizes-are [] m z b f = rw (sizes-none pace m, segments-none m, due-none)
   sizes-are (q ∷ qs) m z b f =
       let on = sizes-are qs m z (b .1) (f .1) in
-      sizes-first q qs m
+      sizes-first pace q qs m
       ∙ by-live (markIn m q)
       (λ h _. rw (size-gap m q h, on, segments-gap m q qs h))
       (λ h _. rw (size-live m q h, on, segments-live m q qs h, due-first pieceSize, size-is m q z (b .0) (f .0), record-is m q))
@@ -157,6 +178,11 @@ module _ (deadLink : ℕ) (pace : Pace) where
   pub tally-first : (q : ℕ) (qs : List ℕ) (m : Store) (t : Tally) → tallyOver deadLink pace (q ∷ qs) m t ≡ tallyOver deadLink pace qs (flownAt pace m q) (talliedAt deadLink pace m q t)
   unfolding tallyOver
   tally-first q qs m t = refl
+
+  pub tally-append : (a b : List ℕ) (m : Store) (t : Tally) → tallyOver deadLink pace (a ++ b) m t ≡ tallyOver deadLink pace b (flownOver pace a m) (tallyOver deadLink pace a m t)
+  unfolding tallyOver flownOver
+  tally-append [] b m t = refl
+  tally-append (q ∷ a) b m t = tally-append a b (flownAt pace m q) (talliedAt deadLink pace m q t)
 
   tallied-none : (t : Tally) → tallied deadLink pace [] t ≡ t
   unfolding tallied

@@ -9,14 +9,9 @@ use lib.ListN.{length}
 use Rattle.ring.specs.Places.{place, along}
 use Rattle.ring.proofs.Places.{place-low, place-high, by-place, place-in, place-apart, along-first}
 use Rattle.snd_ring.specs.Store.{Store, cell, seen}
-use Rattle.flight.specs.Places.{placesOf, runOf, over, Covers}
+use Rattle.flight.specs.Places.{placesOf, runOf, over, Each, Covers}
 
 -- ---- lists of places
-
--- P holds of each
-abbrev pub Each : (ℕ → Type 0) → List ℕ → Type 0
-Each P [] = Unit {0}
-Each P (q ∷ qs) = P q × Each P qs
 
 -- each under p
 abbrev pub Below : ℕ → List ℕ → Type 0
@@ -30,6 +25,10 @@ Apart t qs = Each (λ (q : ℕ). q ≡ t → ⊥) qs
 abbrev pub Once : List ℕ → Type 0
 Once [] = Unit {0}
 Once (q ∷ qs) = Apart q qs × Once qs
+
+pub each-append : (P : ℕ → Type 0) (a b : List ℕ) → Each P (a ++ b) → Each P a × Each P b
+each-append P [] b h = (tt, h)
+each-append P (q ∷ a) b h = let i = each-append P a b (h .1) in ((h .0, i .0), i .1)
 
 module _ {A : Type 0} where
   pub over-append : (f : ℕ → List A) (a b : List ℕ) → over f (a ++ b) ≡ over f a ++ over f b
@@ -112,6 +111,9 @@ module _ (q to : ℕ) where
   pub run-end : to ≤ q → runOf q (to - q) ≡ []
   unfolding runOf
   run-end h = let e : to - q ≡ 0 = omega arith in rw e
+
+pub each-next : (P : ℕ → Type 0) (q to : ℕ) → q < to → Each P (runOf q (to - q)) → P q × Each P (runOf (q + 1) (to - (q + 1)))
+each-next P q to h e = rw (run-next q to h) at e
 
 pub run-all : (n : ℕ) → runOf 0 (n - 0) ≡ runOf 0 n
 run-all n = let e : n - 0 ≡ n = omega arith in rw e

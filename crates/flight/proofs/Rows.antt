@@ -3,11 +3,12 @@ use Prim.Native.Nat.{ℕ, _+_, _-_, _*_, _/_, _≤_, _<_}
 use native.Mathlib.Omega.{arith}
 use mathlib.Core.Path.{_≡_, refl, sym, ap, _∙_}
 use mathlib.Core.List.{List, [], _∷_, _++_, map}
-use lib.ListN.{length, getD, take, drop}
+use lib.ListN.{length, getD, take, drop, take-append-drop}
+use lib.Seq.{take-add}
 use Rattle.ring.specs.Lists.{lists}
-use Rattle.ring.specs.Records.{putSlot, partSlot, numberAt}
-use Rattle.ring.proofs.Rows.{putSlot-length, partSlot-own, partSlot-other, partSlot-number}
-use Rattle.snd_ring.specs.Store.{Store, storeOf, cell, Sized}
+use Rattle.ring.specs.Records.{put, part, putSlot, partSlot, numberAt}
+use Rattle.ring.proofs.Rows.{part-length, putSlot-length, partSlot-own, partSlot-other, partSlot-number}
+use Rattle.snd_ring.specs.Store.{Store, store, storeOf, cell, Sized}
 use Rattle.snd_ring.proofs.Splits.{rows-length, row-within, store-room, part-rows, store-part}
 use Rattle.snd_ring.proofs.Views.{segmentAt, cell-live, in-rows}
 use Rattle.transmit.specs.Memory.{conv, frg, sn, ts, resendts, rto, fastack, xmit, segmentOf}
@@ -39,6 +40,16 @@ module _ (a : List ℕ) (q : ℕ) where
       let v = ap length u ∙ putSlot-length 8 (storeOf 8 (lists a room) .rows) q 0 (rowOf r) (omega arith) (omega arith) in
       store-part 8 a room slots e y v ∙ rw (u, store-room 8 (lists a room))
 
+-- ---- what stands there already is put
+
+joined : (l : List ℕ) (at n : ℕ) → take at l ++ part l at n ++ drop (at + n) l ≡ l
+unfolding part
+joined l at n = rw (← take-add at n l) (take-append-drop (at + n) l)
+
+put-same : (l : List ℕ) (at n : ℕ) → at + n ≤ length l → put l at (part l at n) ≡ l
+unfolding put
+put-same l at n h = rw (part-length l at n h) (joined l at n)
+
 -- ---- what is seen at a place is its record
 
 pub record-is : (m : Store) (q : ℕ) → recordOf (segmentOf (segmentAt 8 m q)) ≡ recordIn m q
@@ -56,6 +67,28 @@ record-is m q =
     )
 
 -- ---- a renewed row
+
+-- eight numbers, one by one
+eight : (l : List ℕ) → length l ≡ 8 → getD l 0 0 ∷ getD l 1 0 ∷ getD l 2 0 ∷ getD l 3 0 ∷ getD l 4 0 ∷ getD l 5 0 ∷ getD l 6 0 ∷ getD l 7 0 ∷ [] ≡ l
+eight (a ∷ b ∷ c ∷ d ∷ e ∷ f ∷ g ∷ h ∷ []) n = refl
+eight [] n = absurd (omega arith)
+eight (a ∷ []) n = absurd (omega arith)
+eight (a ∷ b ∷ []) n = absurd (omega arith)
+eight (a ∷ b ∷ c ∷ []) n = absurd (omega arith)
+eight (a ∷ b ∷ c ∷ d ∷ []) n = absurd (omega arith)
+eight (a ∷ b ∷ c ∷ d ∷ e ∷ []) n = absurd (omega arith)
+eight (a ∷ b ∷ c ∷ d ∷ e ∷ f ∷ []) n = absurd (omega arith)
+eight (a ∷ b ∷ c ∷ d ∷ e ∷ f ∷ g ∷ []) n = absurd (omega arith)
+eight (a ∷ b ∷ c ∷ d ∷ e ∷ f ∷ g ∷ h ∷ i ∷ l) n = absurd (omega arith)
+
+-- with the record that stands there already, all stays
+pub renewed-same : (m : Store) → Sized 8 m → (q : ℕ) → q < length (m .marks) → renewedAt m q (recordIn m q) ≡ m
+unfolding renewedAt
+renewed-same m z q h =
+    let a = in-rows 8 m z q h in
+    let n = part-length (m .rows) (q * 8 + 0) 8 (omega arith) in
+    let e : rowOf (recordIn m q) ≡ partSlot 8 (m .rows) q 0 8 = ap rowOf (sym (record-is m q)) ∙ eight (partSlot 8 (m .rows) q 0 8) n in
+    rw e (ap (λ (l : List ℕ). store (m .marks) l (m .room)) (put-same (m .rows) (q * 8 + 0) 8 (omega arith)))
 
 module _ (m : Store) (q : ℕ) (r : Record) where
   pub renewed-marks : renewedAt m q r .marks ≡ m .marks

@@ -29,9 +29,9 @@ use Rattle.flushing.specs.Windows.{leaving}
 use Rattle.flushing.specs.Pieces.{sentOut}
 use Rattle.flushing.specs.Pieces as rule
 use Rattle.flushing.specs.Rules.{movedOut}
-use Rattle.flight.specs.Places.{placesOf, over}
+use Rattle.flight.specs.Places.{placesOf, over, Each}
 use Rattle.flight.specs.Memory.{markIn, flightPlaces, waitingPlaces, launchedOver, launchedSender, launchedAt, flownOver}
-use Rattle.flight.proofs.Places.{Each, Below, Once, places-each, places-below, places-apart, places-once, seen-places}
+use Rattle.flight.proofs.Places.{Below, Once, places-each, places-below, places-apart, places-once, seen-places}
 use Rattle.flight.proofs.Walks.{segmentsAt, flown-marks, flown-sized, flown-other, flown-seen, launched-marks, launched-sized, launched-other, launched-seen}
 
 -- a ring is as sound where the marks are the same and the sizes agree

@@ -19,9 +19,9 @@ use Rattle.flushing.specs.declared.due.Pace.{Pace}
 use Rattle.flushing.specs.Due.{numbered, flownBy}
 use Rattle.flushing.specs.Pieces.{recordOf, sentOut}
 use Rattle.flushing.specs.Pieces as rule
-use Rattle.flight.specs.Places.{over}
+use Rattle.flight.specs.Places.{over, Each}
 use Rattle.flight.specs.Memory.{recordIn, renewedAt, markIn, isGap, launchedOver, flownAt, flownOver}
-use Rattle.flight.proofs.Places.{Each, Below, Apart, Once, over-first, over-apart}
+use Rattle.flight.proofs.Places.{Below, Apart, Once, over-first, over-apart}
 use Rattle.flight.proofs.Rows.{record-is, renewed-marks, renewed-room, renewed-sized, renewed-own, renewed-other}
 
 -- the segments at these places
@@ -149,6 +149,11 @@ module _ (pace : Pace) where
   pub flown-first : (q : ℕ) (qs : List ℕ) (m : Store) → flownOver pace (q ∷ qs) m ≡ flownOver pace qs (flownAt pace m q)
   unfolding flownOver
   flown-first q qs m = refl
+
+  pub flown-append : (a b : List ℕ) (m : Store) → flownOver pace (a ++ b) m ≡ flownOver pace b (flownOver pace a m)
+  unfolding flownOver
+  flown-append [] b m = refl
+  flown-append (q ∷ a) b m = flown-append a b (flownAt pace m q)
 
   flown-walk : (x : ℕ) (qs : List ℕ) (m : Store) → flownOver pace qs m ≡ walk flying x qs m
   flown-walk x [] m = flown-none m ∙ sym (walk-none flying x m)

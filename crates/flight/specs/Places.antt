@@ -21,6 +21,11 @@ unfoldable pub over : {A : Type 0} → (ℕ → List A) → List ℕ → List A
 over f [] = []
 over f (q ∷ qs) = f q ++ over f qs
 
+-- P holds of each
+abbrev pub Each : (ℕ → Type 0) → List ℕ → Type 0
+Each P [] = Unit {0}
+Each P (q ∷ qs) = P q × Each P qs
+
 -- the places are one run, or two round the ring's end: those from `from` up to `to`, and then the first `rest`
 pub record Covers (slots start from n : ℕ) (r : Runs) : Type 0 where
   pub places : placesOf slots start from n ≡ runOf (r .from) (r .to - r .from) ++ runOf 0 (r .rest)

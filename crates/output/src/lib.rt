@@ -1,9 +1,17 @@
 // The way out in lent memory: flush_ack, flush, update and check. Each requires that the memory is well formed; the public calls test that and then act.
 ghost use mathlib.Core.Path.{_≡_};
-ghost use Rattle.block.specs.WellFormed.{ProbeFits};
-ghost use Rattle.output.specs.Memory.{toldOf, planOf};
+ghost use Rattle.block.specs.WellFormed.{SettingsFit, ProbeFits, AckListFits};
+ghost use Prim.Native.Nat.{_*_, _≤_};
+ghost use lib.ListN.{length};
+ghost use Rattle.block.specs.declared.refusal.Answer.the-variants.{Refused as Unsent};
+ghost use Rattle.block.specs.declared.refusal.Refusal.the-variants.{OutTooSmall};
+ghost use Rattle.packing.specs.FlushAck.{writing};
+ghost use Rattle.output.specs.Memory.{toldOf, planOf, flushAckAt};
 use block::Kcp;
+use block::acklist::AckList;
 use block::probe::Probe;
+use block::refusal::Answer;
+use block::refusal::Refusal;
 use flushing::due::Pace;
 use flushing::due::pace_of;
 use flushing::headers::Told;
@@ -11,6 +19,7 @@ use flushing::probing::probe_wnd_size;
 use flushing::windows::leaving;
 use flushing::windows::window_of;
 use flushing::windows::wnd_unused;
+use packing::flush_ack::Packed;
 
 // What every header of a flush tells: the conv, what is left of the receive window, and the next number awaited.
 fn told(block: Kcp) -> Told
@@ -53,5 +62,66 @@ fn planned(block: Kcp) -> Plan
         probe: probe_wnd_size(block.probe, congestion.rmt_wnd, clock.current),
         window: window,
         leavers: leaving(sender.snd_una, window, sender.snd_nxt, ring.unsent),
+    }
+}
+
+// What a call leaves beside the lent memory: the block, the answer, and how many datagrams went out.
+pub struct Out {
+    pub block: Kcp,
+    pub answer: Answer,
+    pub datagrams: usize,
+}
+
+// A call refused by 13: all as it was.
+fn too_small(block: Kcp) -> Out
+    ensures { λ r. ⌜ r ≡ record { block = block; answer = Unsent OutTooSmall; datagrams = 0 } ⌝ }
+{
+    Out {
+        block: block,
+        answer: Answer::Refused {
+            why: Refusal::OutTooSmall,
+        },
+        datagrams: 0,
+    }
+}
+
+// Puts the acks out behind the bytes that wait; what does not fill a datagram stays waiting. Refused by 13, which leaves all.
+pub fn flush_ack(
+    block: Kcp,
+    acks: &[u32],
+    waiting: &mut [u8],
+    out: &mut [u8],
+    lengths: &mut [u16],
+) -> Out
+    requires { ⌜ SettingsFit (block .settings) ⌝ }
+    requires { ⌜ AckListFits (block .acklist) ⌝ }
+    requires { ⌜ 2 * block .acklist .acks ≤ length (now acks) ⌝ }
+    requires { ⌜ length (now waiting) ≡ 1500 ⌝ }
+    ensures { λ r. ⌜ record { block = r .block; answer = r .answer; datagrams = r .datagrams; written = writing (now (waiting .exit)) (now (out .exit)) (now (lengths .exit)) }
+        ≡ flushAckAt block (now (acks .entry)) (writing (now (waiting .entry)) (now (out .entry)) (now (lengths .entry))) ⌝ }
+{
+    let settings = block.settings;
+    let acklist = block.acklist;
+    let packed = packing::flush_ack::flush_ack(
+        told(block),
+        settings.mtu as usize,
+        acks,
+        acklist.acks as usize,
+        waiting,
+        acklist.waiting as usize,
+        out,
+        lengths,
+    );
+    let Packed::Sent { datagrams, waiting: left } = packed else {
+        return too_small(block);
+    };
+    let rest = AckList {
+        acks: 0,
+        waiting: left as u32,
+    };
+    Out {
+        block: block.with_acklist(rest),
+        answer: Answer::Done,
+        datagrams: datagrams,
     }
 }

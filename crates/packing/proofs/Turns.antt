@@ -8,63 +8,73 @@ use mathlib.Core.Bool.{Bool, true, false}
 use mathlib.Core.List.{List, [], _∷_, _++_, map, map-append, append-assoc, append-nil}
 use lib.ListN.{length, length-append}
 use lib.Dec.{ltb}
-use borrow.Author.Tests.{lt-ltb, le-ltb}
+use borrow.Author.Tests.{lt-ltb}
 use Rattle.serial.specs.Branch.{pick}
 use Rattle.ring.specs.Records.{put}
 use Rattle.ring.proofs.Rows.{put-put}
 use Rattle.flushing.specs.Pack.{flat, sumOf, datagramSize, goesSize, staysSize, packSizes, packAllSizes}
 use Rattle.flushing.proofs.Packing.{AtMost, flat-append, length-flat, sum-append, sizes-sum, all-sum, rest-most}
 use Rattle.packing.specs.declared.packer.Packer.{Packer}
-use Rattle.packing.specs.Packer.{sized, closed}
+use Rattle.packing.specs.Packer.{departs, sized, closed}
 use Rattle.packing.proofs.Laying.{Laying, laying-start, laying-length, laying-fits, laying-on, laying-end}
 
--- ---- one piece: it joins what waits; or nothing waits; or what waits goes out
+-- ---- one piece
 
-one-written : (n : ℕ) → (n ≡ 0 → ⊥) → datagramSize n ≡ n ∷ []
-unfolding datagramSize
-one-written zero e = absurd (e refl)
-one-written (suc n) e = refl
+-- what goes out, and what waits then, by whether a datagram does
+goes-by : (mtu n k : ℕ) → goesSize mtu n k ≡ pick (departs mtu n k) (n ∷ []) []
+unfolding goesSize departs datagramSize pick
+goes-by mtu zero k = of (ltb mtu (zero + k))
+  where
+    of : (t : Bool) → pick {A = List ℕ} t [] [] ≡ []
+    of true = refl
+    of false = refl
+goes-by mtu (suc n) k = rw (lt-ltb 0 (suc n) (omega arith))
 
+stays-by : (mtu n k : ℕ) → staysSize mtu n k ≡ pick (departs mtu n k) k (n + k)
+unfolding staysSize departs pick
+stays-by mtu zero k = of (ltb mtu (zero + k))
+  where
+    of : (t : Bool) → pick t k (zero + k) ≡ zero + k
+    of true = omega arith
+    of false = refl
+stays-by mtu (suc n) k = rw (lt-ltb 0 (suc n) (omega arith))
+
+pub departs-none : (mtu n k : ℕ) → n ≡ 0 → false ≡ departs mtu n k
+unfolding departs
+departs-none mtu n k e = rw e
+
+pub departs-some : (mtu n k : ℕ) → (n ≡ 0 → ⊥) → ltb mtu (n + k) ≡ departs mtu n k
+unfolding departs
+departs-some mtu n k h = rw (lt-ltb 0 n (omega (arith, h)))
+
+-- what the packer becomes, and what is put into the lengths
 module _ (mtu : ℕ) (p : Packer) (k : ℕ) where
-  joins-goes : p .used + k ≤ mtu → goesSize mtu (p .used) k ≡ []
-  unfolding goesSize pick
-  joins-goes h = rw (le-ltb _ _ h)
-
-  alone-goes : mtu < p .used + k → p .used ≡ 0 → goesSize mtu (p .used) k ≡ []
-  unfolding goesSize pick datagramSize
-  alone-goes h e = rw (lt-ltb _ _ h, e)
-
-  pub leaves-goes : mtu < p .used + k → (p .used ≡ 0 → ⊥) → goesSize mtu (p .used) k ≡ p .used ∷ []
-  unfolding goesSize pick
-  leaves-goes h e = rw (lt-ltb _ _ h) (one-written (p .used) e)
-
-  joins-stays : p .used + k ≤ mtu → staysSize mtu (p .used) k ≡ p .used + k
-  unfolding staysSize pick
-  joins-stays h = rw (le-ltb _ _ h)
-
-  leaves-stays : mtu < p .used + k → staysSize mtu (p .used) k ≡ k
-  unfolding staysSize pick
-  leaves-stays h = rw (lt-ltb _ _ h)
-
-  -- what the packer becomes, and what is put into the lengths
-  pub joins : p .used + k ≤ mtu → (_≡_ {A = Packer} (record { start = p .start; used = p .used + k; count = p .count }) (sized mtu p (k ∷ []))) × (goesSize mtu (p .used) k ≡ [])
-  unfolding sized packSizes sumOf
-  joins h = (sym (simp (joins-goes h, joins-stays h, add-zero)), joins-goes h)
-
-  pub alone : mtu < p .used + k → p .used ≡ 0 → (_≡_ {A = Packer} (record { start = p .start; used = k; count = p .count }) (sized mtu p (k ∷ []))) × (goesSize mtu (p .used) k ≡ [])
-  unfolding sized packSizes sumOf
-  alone h e = (sym (simp (alone-goes h e, leaves-stays h, add-zero)), alone-goes h e)
-
-  pub leaves : mtu < p .used + k → (p .used ≡ 0 → ⊥)
+  pub leaves : (t : Bool) → t ≡ departs mtu (p .used) k → t ≡ true
       → (_≡_ {A = Packer} (record { start = p .start + p .used; used = k; count = p .count + 1 }) (sized mtu p (k ∷ []))) × (goesSize mtu (p .used) k ≡ p .used ∷ [])
-  unfolding sized packSizes sumOf
-  leaves h e = (sym (simp (leaves-goes h e, leaves-stays h, add-zero)), leaves-goes h e)
+  unfolding sized packSizes sumOf pick
+  leaves t e h =
+      let d : departs mtu (p .used) k ≡ true = sym e ∙ h in
+      let g : goesSize mtu (p .used) k ≡ p .used ∷ [] = rw (goes-by mtu (p .used) k, d) in
+      (sym (simp (g, stays-by mtu (p .used) k, d, add-zero)), g)
+
+  pub joins : (t : Bool) → t ≡ departs mtu (p .used) k → t ≡ false
+      → (_≡_ {A = Packer} (record { start = p .start; used = p .used + k; count = p .count }) (sized mtu p (k ∷ []))) × (goesSize mtu (p .used) k ≡ [])
+  unfolding sized packSizes sumOf pick
+  joins t e h =
+      let d : departs mtu (p .used) k ≡ false = sym e ∙ h in
+      let g : goesSize mtu (p .used) k ≡ [] = rw (goes-by mtu (p .used) k, d) in
+      (sym (simp (g, stays-by mtu (p .used) k, d, add-zero)), g)
 
 -- ---- the last bytes
 
 -- two packers with the same numbers
 same : (s u n s′ u′ n′ : ℕ) → s ≡ s′ → u ≡ u′ → n ≡ n′ → _≡_ {A = Packer} (record { start = s; used = u; count = n }) (record { start = s′; used = u′; count = n′ })
 same s u n s′ u′ n′ a b c = cc
+
+one-written : (n : ℕ) → (n ≡ 0 → ⊥) → datagramSize n ≡ n ∷ []
+unfolding datagramSize
+one-written zero e = absurd (e refl)
+one-written (suc n) e = refl
 
 module _ (p : Packer) where
   pub closed-none : p .used ≡ 0 → (p ≡ closed p) × (datagramSize (p .used) ≡ [])

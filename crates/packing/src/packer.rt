@@ -5,7 +5,7 @@ ghost use mathlib.Core.List.{_∷_, []};
 ghost use lib.ListN.{length};
 ghost use Rattle.ring.specs.Records.{put};
 ghost use Rattle.flushing.specs.Pack.{goesSize, datagramSize};
-ghost use Rattle.packing.specs.Packer.{holding, sized, closed};
+ghost use Rattle.packing.specs.Packer.{holding, departs, sized, closed};
 
 // The bytes that have gone out; the bytes of the datagram that is being filled; the datagrams that have gone out.
 pub struct Packer {
@@ -26,33 +26,38 @@ impl Packer {
         }
     }
 
+    // Whether a datagram goes out before a piece of n bytes: some wait, and they and the piece exceed mtu.
+    fn departs(self, mtu: usize, n: usize) -> bool
+        requires { ⌜ self .used + n < 2 ^ 32 ⌝ }
+        ensures { λ r. ⌜ r ≡ departs mtu (self .used) n ⌝ }
+    {
+        let used = self.used;
+        if used == 0 {
+            return false;
+        }
+        used + n > mtu
+    }
+
     // A piece of n bytes, by its size alone.
     pub fn size(self, mtu: usize, n: usize) -> Packer
         requires { ⌜ self .start + self .used + n < 2 ^ 32 ⌝ }
-        requires { ⌜ self .count < 2 ^ 32 ⌝ }
+        requires { ⌜ self .count < 2 ^ 63 ⌝ }
         ensures { λ r. ⌜ r ≡ sized mtu self (n ∷ []) ⌝ }
     {
         let start = self.start;
         let used = self.used;
         let count = self.count;
-        if used + n <= mtu {
+        if self.departs(mtu, n) {
             return Packer {
-                start: start,
-                used: used + n,
-                count: count,
-            };
-        }
-        if used == 0 {
-            return Packer {
-                start: start,
+                start: start + used,
                 used: n,
-                count: count,
+                count: count + 1,
             };
         }
         Packer {
-            start: start + used,
-            used: n,
-            count: count + 1,
+            start: start,
+            used: used + n,
+            count: count,
         }
     }
 
@@ -64,35 +69,18 @@ impl Packer {
         ensures { λ r. ⌜ r ≡ sized mtu self (n ∷ []) ⌝ }
         ensures { λ _. ⌜ now (lengths .exit) ≡ put (now (lengths .entry)) (self .count) (goesSize mtu (self .used) n) ⌝ }
     {
-        let start = self.start;
         let used = self.used;
         let count = self.count;
-        if used + n <= mtu {
-            return Packer {
-                start: start,
-                used: used + n,
-                count: count,
-            };
+        if self.departs(mtu, n) {
+            lengths[count] = used as u16;
         }
-        if used == 0 {
-            return Packer {
-                start: start,
-                used: n,
-                count: count,
-            };
-        }
-        lengths[count] = used as u16;
-        Packer {
-            start: start + used,
-            used: n,
-            count: count + 1,
-        }
+        self.size(mtu, n)
     }
 
     // The waiting bytes go out, by numbers alone.
     pub fn close(self) -> Packer
         requires { ⌜ self .start + self .used < 2 ^ 32 ⌝ }
-        requires { ⌜ self .count < 2 ^ 32 ⌝ }
+        requires { ⌜ self .count < 2 ^ 63 ⌝ }
         ensures { λ r. ⌜ r ≡ closed self ⌝ }
     {
         let start = self.start;
@@ -116,17 +104,12 @@ impl Packer {
         ensures { λ r. ⌜ r ≡ closed self ⌝ }
         ensures { λ _. ⌜ now (lengths .exit) ≡ put (now (lengths .entry)) (self .count) (datagramSize (self .used)) ⌝ }
     {
-        let start = self.start;
         let used = self.used;
         let count = self.count;
         if used == 0 {
             return self;
         }
         lengths[count] = used as u16;
-        Packer {
-            start: start + used,
-            used: 0,
-            count: count + 1,
-        }
+        self.close()
     }
 }

@@ -1,25 +1,17 @@
--- `Packer::cut` meets its contract: the three cases of a piece. Assumes nothing.
+-- `Packer::cut` meets its contract: a length is put, or none. Assumes nothing.
 use mathlib.Core.Path.{sym, ap, _∙_}
-use lib.ListN.{length}
+use mathlib.Core.Logic.{⊎-elim}
 use native.Mathlib.Omega.{arith}
+use lib.ListN.{length, length-set}
 use Rattle.ring.proofs.Rows.{put-one}
-use Rattle.packing.proofs.Turns.{joins, alone, leaves}
 use Rattle.packing.proofs.Laying.{put-none}
+use Rattle.packing.proofs.Turns.{leaves, joins}
 use borrow.Author.Needs.{needs}
 use Rattle.packing.proofs.packer.Packer.cut.Statement.{statement}
 use Rattle.packing.proofs.packer.Packer.cut.Tie as tie
 
-add-if1 : tie.Need-add-if1
-add-if1 c = search needs
-
-add-t10 : tie.Need-add-t10
-add-t10 c = search needs
-
-returns : tie.Need-returns
-returns c = let e = joins (c .before .args .mtu) (c .before .args .self) (c .before .args .n) (c .if1 .taken) in (e .0, sym (rw (e .1) (put-none _ _)))
-
-returns-2 : tie.Need-returns-2
-returns-2 c = let e = alone (c .before .before .args .mtu) (c .before .before .args .self) (c .before .before .args .n) (c .before .if1 .left) (c .if2 .taken) in (e .0, sym (rw (e .1) (put-none _ _)))
+departs-requires : tie.Need-departs-requires
+departs-requires c κs = search needs
 
 cast-lengths : tie.Need-cast-lengths
 cast-lengths c = search needs
@@ -28,34 +20,37 @@ mul-lengths : tie.Need-mul-lengths
 mul-lengths c = search needs
 
 slice-write-lengths : tie.Need-slice-write-lengths
-slice-write-lengths c = omega (arith, ap length (leaves (c .before .before .args .mtu) (c .before .before .args .self) (c .before .before .args .n) (c .before .if1 .left) (c .if2 .left) .1))
+slice-write-lengths c =
+    let args = c .before .before .before .args in
+    omega (arith, ap length (leaves (args .mtu) (args .self) (args .n) _ (c .before .departs .ensures) (c .if1 .taken) .1))
 
-add-t8 : tie.Need-add-t8
-add-t8 c = search needs
-
-add-t13 : tie.Need-add-t13
-add-t13 c = search needs
+size-requires : tie.Need-size-requires
+size-requires c κs = search needs
 
 same-length : tie.Need-same-length
-same-length c = search needs
+same-length c =
+    let args = c .before .before .before .before .args in
+    ⊎-elim (λ w. ap length (w .1) ∙ length-set (args .lengths .now) (args .self .count) (args .self .used)) (λ w. ap length (w .1)) (c .before .if1 .came)
 
-returns-3 : tie.Need-returns-3
-returns-3 c =
-    let e = leaves (c .before .before .args .mtu) (c .before .before .args .self) (c .before .before .args .n) (c .before .if1 .left) (c .if2 .left) in
-    (e .0, rw (e .1) (put-one _ _ _ (omega (arith, ap length (e .1)))))
+returns : tie.Need-returns
+returns c =
+    let args = c .before .before .before .before .args in
+    let d = c .before .before .departs .ensures in (
+      c .size .ensures,
+      ⊎-elim
+          (λ w. let e = leaves (args .mtu) (args .self) (args .n) _ d (w .0 .taken) .1 in w .1 ∙ rw e (put-one _ _ _ (omega (arith, ap length e))))
+          (λ w. w .1 ∙ rw (joins (args .mtu) (args .self) (args .n) _ d (w .0 .left) .1) (sym (put-none _ _)))
+          (c .before .if1 .came),
+    )
 
 pub cut-spec : {M : Type 1} → statement M
 cut-spec =
     tie.close
     (tie.spec
-    add-if1
-    add-t10
-    returns
-    returns-2
+    departs-requires
     cast-lengths
     mul-lengths
     slice-write-lengths
-    add-t8
-    add-t13
+    size-requires
     same-length
-    returns-3)
+    returns)

@@ -1,29 +1,26 @@
--- `Packer::size` meets its contract: the three cases of a piece. Assumes nothing.
-use Rattle.packing.proofs.Turns.{joins, alone, leaves}
+-- `Packer::size` meets its contract: a datagram goes out, or the piece joins what waits. Assumes nothing.
+use Rattle.packing.proofs.Turns.{leaves, joins}
 use borrow.Author.Needs.{needs}
 use Rattle.packing.proofs.packer.Packer.size.Statement.{statement}
 use Rattle.packing.proofs.packer.Packer.size.Tie as tie
 
-add-if1 : tie.Need-add-if1
-add-if1 c = search needs
+departs-requires : tie.Need-departs-requires
+departs-requires c κs = search needs
+
+add-t8 : tie.Need-add-t8
+add-t8 c = search needs
 
 add-t9 : tie.Need-add-t9
 add-t9 c = search needs
 
 returns : tie.Need-returns
-returns c = joins _ _ _ (c .if1 .taken) .0
-
-returns-2 : tie.Need-returns-2
-returns-2 c = alone _ _ _ (c .before .if1 .left) (c .if2 .taken) .0
-
-add-t7 : tie.Need-add-t7
-add-t7 c = search needs
+returns c = leaves _ _ _ _ (c .before .departs .ensures) (c .if1 .taken) .0
 
 add-t10 : tie.Need-add-t10
 add-t10 c = search needs
 
-returns-3 : tie.Need-returns-3
-returns-3 c = leaves _ _ _ (c .before .if1 .left) (c .if2 .left) .0
+returns-2 : tie.Need-returns-2
+returns-2 c = joins _ _ _ _ (c .before .departs .ensures) (c .if1 .left) .0
 
 pub size-spec : {M : Type 1} → statement M
-size-spec = tie.close (tie.spec add-if1 add-t9 returns returns-2 add-t7 add-t10 returns-3)
+size-spec = tie.close (tie.spec departs-requires add-t8 add-t9 returns add-t10 returns-2)

@@ -1,0 +1,2 @@
+-- `Sizing` has the laws of the size pass.
+pub mod Sizing

@@ -1,0 +1,148 @@
+// The fresh and resent segments of a flush: by their sizes alone, and written. Both passes go over the places in flight, one run of them or two round
+// the ring's end, gaps passed over.
+ghost use mathlib.Core.Path.{_≡_};
+ghost use mathlib.Core.List.{List, []};
+ghost use Prim.Native.Nat.{ℕ, _+_, _-_, _*_, _/_, _≤_, _<_, _^_};
+ghost use lib.ListN.{length, getD};
+ghost use Rattle.ring.specs.Lists.{lists};
+ghost use Rattle.ring.specs.Records.{put, partSlot};
+ghost use Rattle.snd_ring.specs.Store.{storeOf, Sound};
+ghost use Rattle.wire.specs.Header.{headerBytes};
+ghost use Rattle.flushing.specs.Due.{dueOf, goesOut};
+ghost use Rattle.flushing.specs.Pieces.{pushHead};
+ghost use Rattle.packing.specs.Packer.{sized};
+ghost use Rattle.flight.specs.Places.{runOf, Each};
+ghost use Rattle.flight.specs.Memory.{recordIn, flightPlaces, waitingPlaces, sizeAt, sizesOver, freshSizes, piecesOver};
+ghost use Rattle.due.specs.Pass.{Rung, pass, passOver, Roomy, Fits};
+use flushing::due::Pace;
+use flushing::due::Record;
+use flushing::due::Tally;
+use flushing::headers::Told;
+use packing::packer::Packer;
+use snd_ring::SndRing;
+
+// Whether what stands at place q would go out, gap or not: few rows do, and their marks are looked at then.
+fn goes(records: &[u32], slots: usize, q: usize, pace: Pace) -> bool
+    requires { ⌜ slots ≡ length (now records) / 9 ⌝ }
+    requires { ⌜ q < slots ⌝ }
+    ensures { λ r. ⌜ ((room : List ℕ) → r ≡ goesOut (dueOf pace (recordIn (storeOf 8 (lists (now (records .entry)) room)) q))) ⌝ }
+{
+    let flown = flight::record_at(records, slots, q).flown_by(pace);
+    let due = flown.due;
+    due.goes_out()
+}
+
+// The segment at place q, if it goes out, by its size.
+fn size_at(
+    records: &[u32],
+    slots: usize,
+    q: usize,
+    pace: Pace,
+    mtu: usize,
+    packer: Packer,
+) -> Packer
+    requires { ⌜ slots ≡ length (now records) / 9 ⌝ }
+    requires { ⌜ q < slots ⌝ }
+    requires { ⌜ getD (now records) q 0 ≤ 1477 ⌝ }
+    requires { ⌜ packer .start + packer .used + 1500 < 2 ^ 32 ⌝ }
+    requires { ⌜ packer .count < 2 ^ 32 ⌝ }
+    ensures { λ r. ⌜ ((room : List ℕ) → r ≡ sized mtu packer (sizeAt pace (storeOf 8 (lists (now (records .entry)) room)) q)) ⌝ }
+    ensures { λ r. ⌜ (r .start + r .used ≤ packer .start + packer .used + 1500) × (r .count ≤ packer .count + 1) ⌝ }
+{
+    if !goes(records, slots, q, pace) {
+        return packer;
+    }
+    let mark = records[q];
+    if mark == 0 {
+        return packer;
+    }
+    packer.size(mtu, wire::OVERHEAD + (mark - 1) as usize)
+}
+
+// The same of those at the places from `from` up to `to`.
+fn size_run(
+    records: &[u32],
+    slots: usize,
+    from: usize,
+    to: usize,
+    pace: Pace,
+    mtu: usize,
+    packer: Packer,
+) -> Packer
+    requires { ⌜ slots ≡ length (now records) / 9 ⌝ }
+    requires { ⌜ slots ≤ 65535 ⌝ }
+    requires { ⌜ from ≤ to ⌝ }
+    requires { ⌜ to ≤ slots ⌝ }
+    requires { ⌜ Each (λ (q : ℕ). getD (now records) q 0 ≤ 1477) (runOf from (to - from)) ⌝ }
+    requires { ⌜ packer .start + packer .used < 2 ^ 31 ⌝ }
+    requires { ⌜ packer .count < 2 ^ 31 ⌝ }
+    ensures { λ r. ⌜ ((room : List ℕ) → r ≡ sized mtu packer (sizesOver pace (runOf from (to - from)) (storeOf 8 (lists (now (records .entry)) room)))) ⌝ }
+    ensures { λ r. ⌜ (r .start + r .used ≤ packer .start + packer .used + 1500 * (to - from)) × (r .count ≤ packer .count + (to - from)) ⌝ }
+{
+    let mut p = packer;
+    let mut q = from;
+    while q < to {
+        p = size_at(records, slots, q, pace, mtu, p);
+        q += 1;
+    }
+    p
+}
+
+// The segments in flight that go out, by their sizes; nothing changes.
+pub fn due_sizes(
+    ring: SndRing,
+    records: &[u32],
+    pace: Pace,
+    mtu: usize,
+    packer: Packer,
+) -> Packer
+    requires { ⌜ Rung ring (now records) ⌝ }
+    requires { ⌜ packer .start + packer .used < 2 ^ 30 ⌝ }
+    requires { ⌜ packer .count < 2 ^ 30 ⌝ }
+    ensures { λ r. ⌜ ((room : List ℕ) → r ≡ sized mtu packer (sizesOver pace (flightPlaces ring (storeOf 8 (lists (now (records .entry)) room))) (storeOf 8 (lists (now (records .entry)) room)))) ⌝ }
+{
+    let slots = snd_ring::slots_in(records.len());
+    let runs = flight::runs_of(slots, ring.start as usize, 0, ring.reach as usize);
+    let p = size_run(records, slots, runs.from, runs.to, pace, mtu, packer);
+    size_run(records, slots, 0, runs.rest, pace, mtu, p)
+}
+
+// The segments at the places from `from` up to `to`, which leave the queue and so go out as fresh, by their sizes.
+fn fresh_run(records: &[u32], from: usize, to: usize, mtu: usize, packer: Packer) -> Packer
+    requires { ⌜ from ≤ to ⌝ }
+    requires { ⌜ to ≤ length (now records) / 9 ⌝ }
+    requires { ⌜ to ≤ 65535 ⌝ }
+    requires { ⌜ Each (λ (q : ℕ). (0 < getD (now records) q 0) × (getD (now records) q 0 ≤ 1477)) (runOf from (to - from)) ⌝ }
+    requires { ⌜ packer .start + packer .used < 2 ^ 31 ⌝ }
+    requires { ⌜ packer .count < 2 ^ 31 ⌝ }
+    ensures { λ r. ⌜ ((room : List ℕ) → r ≡ sized mtu packer (freshSizes (runOf from (to - from)) (storeOf 8 (lists (now (records .entry)) room)))) ⌝ }
+    ensures { λ r. ⌜ (r .start + r .used ≤ packer .start + packer .used + 1500 * (to - from)) × (r .count ≤ packer .count + (to - from)) ⌝ }
+{
+    let mut p = packer;
+    let mut q = from;
+    while q < to {
+        p = p.size(mtu, wire::OVERHEAD + (records[q] - 1) as usize);
+        q += 1;
+    }
+    p
+}
+
+// The first k that wait, which are about to leave the queue, by their sizes; nothing changes.
+pub fn fresh_sizes(
+    ring: SndRing,
+    records: &[u32],
+    k: u32,
+    mtu: usize,
+    packer: Packer,
+) -> Packer
+    requires { ⌜ Rung ring (now records) ⌝ }
+    requires { ⌜ k ≤ ring .unsent ⌝ }
+    requires { ⌜ packer .start + packer .used < 2 ^ 30 ⌝ }
+    requires { ⌜ packer .count < 2 ^ 30 ⌝ }
+    ensures { λ r. ⌜ ((room : List ℕ) → r ≡ sized mtu packer (freshSizes (waitingPlaces ring (storeOf 8 (lists (now (records .entry)) room)) k) (storeOf 8 (lists (now (records .entry)) room)))) ⌝ }
+{
+    let slots = snd_ring::slots_in(records.len());
+    let runs = flight::runs_of(slots, ring.start as usize, ring.reach as usize, k as usize);
+    let p = fresh_run(records, runs.from, runs.to, mtu, packer);
+    fresh_run(records, 0, runs.rest, mtu, p)
+}
