@@ -123,3 +123,15 @@ module _ {r : SndRing} {a : List ℕ} (g : Rung r a) {slots : ℕ} (e : slots �
       places-each slots (r .start) (λ (q : ℕ). P (getD a q 0)) from n
       (λ i b d. rw (mark-at a e (place slots (r .start) i) (place-in slots (r .start) i (w .1) (omega arith)) (g .room)) (rw slots-are at (f i b d))) in
       rw (run-all (x .rest)) (each-append (λ (q : ℕ). P (getD a q 0)) (runOf (x .from) (x .to - x .from)) (runOf 0 (x .rest)) (rw (c .places) at each))
+
+  -- those in flight, and the first k that wait, which are no gaps
+  pub flight-marks : {x : Runs} → Covers slots (r .start) 0 (r .reach) x
+      → Each (λ (q : ℕ). getD a q 0 ≤ 1477) (runOf (x .from) (x .to - x .from)) × Each (λ (q : ℕ). getD a q 0 ≤ 1477) (runOf 0 (x .rest - 0))
+  flight-marks c = let w = rung-numbers in runs-each (λ (k : ℕ). k ≤ 1477) 0 (r .reach) (omega arith) (λ i b d. g .sound .marked .fit i (omega arith)) c
+
+  pub waiting-marks : (k : ℕ) → k ≤ r .unsent → {x : Runs} → Covers slots (r .start) (r .reach) k x
+      → Each (λ (q : ℕ). (0 < getD a q 0) × (getD a q 0 ≤ 1477)) (runOf (x .from) (x .to - x .from)) × Each (λ (q : ℕ). (0 < getD a q 0) × (getD a q 0 ≤ 1477)) (runOf 0 (x .rest - 0))
+  waiting-marks k h c =
+      let w = rung-numbers in
+      runs-each (λ (k : ℕ). (0 < k) × (k ≤ 1477)) (r .reach) k (omega arith)
+      (λ i b d. let l = g .sound .marked .waits i b (omega arith) in (omega arith, g .sound .marked .fit i (omega arith))) c

@@ -1,7 +1,7 @@
 // The fresh and resent segments of a flush: by their sizes alone, and written. Both passes go over the places in flight, one run of them or two round
 // the ring's end, gaps passed over.
 ghost use mathlib.Core.Path.{_≡_};
-ghost use mathlib.Core.List.{List, []};
+ghost use mathlib.Core.List.{List, [], _∷_, _++_};
 ghost use Prim.Native.Nat.{ℕ, _+_, _-_, _*_, _/_, _≤_, _<_, _^_};
 ghost use lib.ListN.{length, getD};
 ghost use Rattle.ring.specs.Lists.{lists};
@@ -15,11 +15,12 @@ ghost use Rattle.flight.specs.Places.{runOf, Each};
 ghost use Rattle.flight.specs.Memory.{recordIn, flightPlaces, waitingPlaces, sizeAt, sizesOver, freshSizes, piecesOver};
 ghost use Rattle.due.specs.Pass.{Rung, pass, passOver, Roomy, Fits};
 use flushing::due::Pace;
-use flushing::due::Record;
 use flushing::due::Tally;
 use flushing::headers::Told;
 use packing::packer::Packer;
+use packing::puts::put_header;
 use snd_ring::SndRing;
+use wire::Header;
 
 // Whether what stands at place q would go out, gap or not: few rows do, and their marks are looked at then.
 fn goes(records: &[u32], slots: usize, q: usize, pace: Pace) -> bool
@@ -145,4 +146,64 @@ pub fn fresh_sizes(
     let runs = flight::runs_of(slots, ring.start as usize, ring.reach as usize, k as usize);
     let p = fresh_run(records, runs.from, runs.to, mtu, packer);
     fresh_run(records, 0, runs.rest, mtu, p)
+}
+
+// A header, and behind it the first n bytes of the slot at place q, from out[at] on.
+fn put_piece(header: Header, room: &[u8], q: usize, n: usize, out: &mut [u8], at: usize)
+    requires { ⌜ q * 1476 + 1476 ≤ length (now room) ⌝ }
+    requires { ⌜ n ≤ 1476 ⌝ }
+    requires { ⌜ at + (24 + n) ≤ length (now out) ⌝ }
+    ensures { λ _. ⌜ now (out .exit) ≡ put (now (out .entry)) at (headerBytes header ++ partSlot 1476 (now (room .entry)) q 0 n) ⌝ }
+{
+    put_header(header, out, at);
+    ring::get_payload(room, q, n, out, at + wire::OVERHEAD);
+}
+
+// How far the packing has come, and what was counted.
+pub struct Written {
+    pub packer: Packer,
+    pub tally: Tally,
+}
+
+// The segment at place q, if it goes out: its bytes behind those that are there, the length of the datagram that goes out before it, if one does, its
+// row afterwards, and what is counted of it. The row of one that does not go out stays.
+fn write_at(
+    records: &mut [u32],
+    room: &[u8],
+    slots: usize,
+    q: usize,
+    pace: Pace,
+    told: Told,
+    dead_link: u32,
+    mtu: usize,
+    out: &mut [u8],
+    lengths: &mut [u16],
+    packer: Packer,
+    tally: Tally,
+) -> Written
+    requires { ⌜ slots ≡ length (now records) / 9 ⌝ }
+    requires { ⌜ q < slots ⌝ }
+    requires { ⌜ Fits told pace mtu (q ∷ []) (pass (storeOf 8 (lists (now records) (now room))) (now out) (now lengths) packer tally) ⌝ }
+    ensures { λ r. ⌜ pass (storeOf 8 (lists (now (records .exit)) (now (room .entry)))) (now (out .exit)) (now (lengths .exit)) (r .packer) (r .tally)
+        ≡ passOver told pace «dead_link» mtu (q ∷ []) (pass (storeOf 8 (lists (now (records .entry)) (now (room .entry)))) (now (out .entry)) (now (lengths .entry)) packer tally) ⌝ }
+{
+    let flown = flight::record_at(records, slots, q).flown_by(pace);
+    let due = flown.due;
+    if !due.goes_out() {
+        return Written { packer, tally };
+    }
+    let mark = records[q];
+    if mark == 0 {
+        return Written { packer, tally };
+    }
+    let after = flown.after;
+    let n = (mark - 1) as usize;
+    let at = packer.start + packer.used;
+    put_piece(told.push_head(after, mark - 1), room, q, n, out, at);
+    flight::put_record_at(records, slots, q, after);
+    let further = packer.cut(mtu, wire::OVERHEAD + n, lengths);
+    Written {
+        packer: further,
+        tally: tally.counted(dead_link, due, after.xmit),
+    }
 }

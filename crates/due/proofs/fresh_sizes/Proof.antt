@@ -1,39 +1,58 @@
+-- `due::fresh_sizes` meets its contract. Assumes nothing.
+use native.Mathlib.Omega.{arith}
+use Prim.Native.Nat.{_-_}
+use Rattle.ring.specs.Lists.{lists}
+use Rattle.snd_ring.specs.Store.{storeOf}
+use Rattle.flight.specs.Places.{runOf}
+use Rattle.flight.proofs.Steps.{runs-by}
+use Rattle.due.proofs.Sizing.{fresh-both, rung-numbers, waiting-marks}
 use borrow.Author.Needs.{needs}
 use Rattle.due.proofs.fresh_sizes.Statement.{statement}
 use Rattle.due.proofs.fresh_sizes.Tie as tie
-use Rattle.due.proofs.fresh_sizes.Reads as reads
-use Rattle.due.proofs.fresh_sizes.Lts as lts
-use Rattle.due.proofs.fresh_run.Reads as fresh-run-reads
-use Rattle.flight.proofs.runs_of.Reads as runs-of-reads
-use Rattle.snd_ring.proofs.slots_in.Reads as slots-in-reads
 
--- src/lib.rt:144:9
 slots-in-requires : tie.Need-slots-in-requires
 slots-in-requires c κs = search needs
 
--- src/lib.rt:145:39
 cast-runs-of : tie.Need-cast-runs-of
 cast-runs-of c = search needs
 
--- src/lib.rt:145:60
 cast-runs-of-2 : tie.Need-cast-runs-of-2
 cast-runs-of-2 c = search needs
 
--- src/lib.rt:145:9
 runs-of-requires : tie.Need-runs-of-requires
-runs-of-requires c κs = ?
+runs-of-requires c κs =
+    let w = rung-numbers (c .before .before .before .before .pre .0) (c .before .before .slots-in .ensures) in
+    (w .0, (w .1, omega arith))
 
--- src/lib.rt:146:9
 fresh-run-requires : tie.Need-fresh-run-requires
-fresh-run-requires c κs = ?
+fresh-run-requires c κs =
+    let p = c .before .before .before .before .before .pre in
+    let a = c .before .before .before .before .before .args in
+    let e = c .before .before .before .slots-in .ensures in
+    let w = rung-numbers (p .0) e in
+    let r = c .runs-of .ensures in
+    let high = r .high in
+    (r .low, (omega arith, (omega arith, (waiting-marks (p .0) e (a .k) (p .1 .0) r .0, (omega arith, omega arith)))))
 
--- src/lib.rt:147:5
 fresh-run-requires-2 : tie.Need-fresh-run-requires-2
-fresh-run-requires-2 c κs = ?
+fresh-run-requires-2 c κs =
+    let p = c .before .before .before .before .before .before .pre in
+    let a = c .before .before .before .before .before .before .args in
+    let e = c .before .before .before .before .slots-in .ensures in
+    let w = rung-numbers (p .0) e in
+    let r = c .before .runs-of .ensures in
+    let g = c .fresh-run .ensures .1 in
+    let low = r .low in
+    let high = r .high in
+    let behind = r .behind in
+    (omega arith, (omega arith, (omega arith, (waiting-marks (p .0) e (a .k) (p .1 .0) r .1, (omega arith, omega arith)))))
 
--- src/lib.rt:131:1
 returns : tie.Need-returns
-returns c = ?
+returns c =
+    let a = c .before .before .before .before .before .before .before .args in
+    let r = c .before .before .runs-of .result in
+    λ room. rw (runs-by (a .records .now) (c .before .before .before .before .before .slots-in .ensures) room (a .ring .start) (a .ring .reach) (a .k) (c .before .before .runs-of .ensures))
+    (fresh-both (a .mtu) (storeOf 8 (lists (a .records .now) room)) (runOf (r .from) (r .to - r .from)) (runOf 0 (r .rest - 0)) (a .packer) (c .before .fresh-run .ensures .0 room) (c .fresh-run2 .ensures .0 room))
 
 pub fresh-sizes-spec : {M : Type 1} → statement M
 fresh-sizes-spec =
