@@ -1,1 +1,3 @@
+mod FrontStub
 mod AckFlush
+mod Found

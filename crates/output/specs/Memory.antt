@@ -2,8 +2,8 @@
 -- past those written stay": what they leave of the block and of every lent number and byte. The datagrams of a flush are those of the rules
 -- (flushing/specs/Rules), asked of what is seen in the memory; the send ring afterwards is that of flight/specs/Memory. Assumes nothing.
 use Prim.Native.Nat.{ℕ}
-use mathlib.Core.List.{List, [], _∷_, _++_, map}
-use lib.ListN.{length, take, replicate}
+use mathlib.Core.List.{List, [], _++_, map}
+use lib.ListN.{length, take}
 use Rattle.serial.specs.Branch.{pick}
 use Rattle.serial.specs.Wrap.{add32}
 use Rattle.snd_ring.specs.declared.SndRing.{SndRing}
@@ -18,13 +18,14 @@ use Rattle.transmit.specs.Memory.{seen, Side}
 use Rattle.flushing.specs.declared.headers.Told.{Told}
 use Rattle.flushing.specs.Pack.{pack}
 use Rattle.flushing.specs.Windows.{wndUnused, windowOf, leaving}
-use Rattle.flushing.specs.Probing.{askSet, tellSet, probeWndSize}
+use Rattle.flushing.specs.Probing.{probeWndSize}
 use Rattle.flushing.specs.Due.{paceOf}
 use Rattle.flushing.specs.Clocks.{ticked}
 use Rattle.flushing.specs.Rules.{Outgoing, exceeds, flushed, checkRule}
 use Rattle.packing.specs.Acks.{acksOf, ackBytes}
+use Rattle.packing.specs.Front.{frontPieces, frontSizes}
 use Rattle.packing.specs.FlushAck.{Writing, writing, roomOf, placed}
-use Rattle.flight.specs.Memory.{flightPlaces, waitingPlaces, launchedAt, flownOver, sizesOver, freshSizes}
+use Rattle.flight.specs.Memory.{flightPlaces, waitingPlaces, launchedAt, flownOver, piecesOver, sizesOver, freshSizes}
 use Rattle.output.specs.declared.Plan.{Plan}
 
 -- ---- what the calls see
@@ -93,21 +94,23 @@ planOf k =
       leavers = leaving (add32 (k .sender .«snd_una») window) (k .sender .«snd_nxt») (k .sender .ring .unsent);
     }
 
--- the sizes of its pieces, by what it finds: acks, ask, tell, those in flight that go out, those that leave the queue
-unfoldable pub sizesAt : Kcp → Store → List ℕ
-sizesAt k m =
-    let p = planOf k in
-    replicate (k .acklist .acks) 24
-    ++ (pick (askSet (p .probe .bits)) (24 ∷ []) []
-    ++ (pick (tellSet (p .probe .bits)) (24 ∷ []) []
-    ++ (sizesOver (p .pace) (flightPlaces (k .sender .ring) m) m ++ freshSizes (waitingPlaces (k .sender .ring) m (p .leavers)) m)))
-
 -- the send ring once segments have left the queue, and once those in flight were looked at
 abbrev pub movedAt : Kcp → Store → Side
 movedAt k m = launchedAt (k .settings .conv) (k .clock .current) (k .estimator .rto) (planOf k .leavers) (k .sender) m
 
 abbrev pub flownStore : Kcp → Store → Store
 flownStore k m = flownOver (planOf k .pace) (flightPlaces (movedAt k m .sender .ring) (movedAt k m .store)) (movedAt k m .store)
+
+-- what goes out, in order: acks, ask and tell, then the segments in flight that go out; and the sizes of that by what is found before anything changes
+unfoldable pub piecesAt : Kcp → Store → List ℕ → List (List ℕ)
+piecesAt k m acks =
+    frontPieces (toldOf k) (planOf k .probe .bits) (acksOf acks (k .acklist .acks))
+    ++ piecesOver (toldOf k) (planOf k .pace) (flightPlaces (movedAt k m .sender .ring) (movedAt k m .store)) (movedAt k m .store)
+
+unfoldable pub sizesAt : Kcp → Store → List ℕ
+sizesAt k m =
+    frontSizes (k .acklist .acks) (planOf k .probe .bits)
+    ++ (sizesOver (planOf k .pace) (flightPlaces (k .sender .ring) m) m ++ freshSizes (waitingPlaces (k .sender .ring) m (planOf k .leavers)) m)
 
 -- the block b with what a flush of it leaves; the ring has moved on
 abbrev pub afterFlush : Kcp → SndRing → Outgoing → Kcp
