@@ -53,8 +53,9 @@ pub record Roomy (mtu : ℕ) (p : Packer) (out lengths : List ℕ) (ps : List (L
   pub few : p .start + p .used + length (flat ps) < 2 ^ 32
   pub cuts : p .count + length (packSizes mtu (p .used) (map length ps) .0) ≤ length lengths
 
--- and the sizes of the memory agree, and the payloads at these places fit their slots
+-- and the sizes of the memory agree, these places lie in it, and the payloads there fit their slots
 pub record Fits (told : Told) (pace : Pace) (mtu : ℕ) (qs : List ℕ) (x : Pass) : Type 0 where
   pub agree : Sized 8 (x .store)
+  pub below : Each (λ (q : ℕ). q < length (x .store .marks)) qs
   pub marks : Each (λ (q : ℕ). markIn (x .store) q ≤ 1477) qs
   pub roomy : Roomy mtu (x .packer) (x .out) (x .lengths) (piecesOver told pace qs (x .store))

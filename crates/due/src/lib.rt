@@ -101,6 +101,7 @@ pub fn due_sizes(
     requires { ⌜ packer .start + packer .used < 2 ^ 30 ⌝ }
     requires { ⌜ packer .count < 2 ^ 30 ⌝ }
     ensures { λ r. ⌜ ((room : List ℕ) → r ≡ sized mtu packer (sizesOver pace (flightPlaces ring (storeOf 8 (lists (now (records .entry)) room))) (storeOf 8 (lists (now (records .entry)) room)))) ⌝ }
+    ensures { λ r. ⌜ (r .start + r .used ≤ packer .start + packer .used + 1500 * ring .reach) × (r .count ≤ packer .count + ring .reach) ⌝ }
 {
     let slots = snd_ring::slots_in(records.len());
     let runs = flight::runs_of(slots, ring.start as usize, 0, ring.reach as usize);
@@ -141,6 +142,7 @@ pub fn fresh_sizes(
     requires { ⌜ packer .start + packer .used < 2 ^ 30 ⌝ }
     requires { ⌜ packer .count < 2 ^ 30 ⌝ }
     ensures { λ r. ⌜ ((room : List ℕ) → r ≡ sized mtu packer (freshSizes (waitingPlaces ring (storeOf 8 (lists (now (records .entry)) room)) k) (storeOf 8 (lists (now (records .entry)) room)))) ⌝ }
+    ensures { λ r. ⌜ (r .start + r .used ≤ packer .start + packer .used + 1500 * k) × (r .count ≤ packer .count + k) ⌝ }
 {
     let slots = snd_ring::slots_in(records.len());
     let runs = flight::runs_of(slots, ring.start as usize, ring.reach as usize, k as usize);
@@ -204,6 +206,73 @@ fn write_at(
     let further = packer.cut(mtu, wire::OVERHEAD + n, lengths);
     Written {
         packer: further,
-        tally: tally.counted(dead_link, due, after.xmit),
+        tally: tally.with_sent(dead_link, due, after.xmit),
     }
+}
+
+// The same of those at the places from `from` up to `to`.
+fn write_run(
+    records: &mut [u32],
+    room: &[u8],
+    slots: usize,
+    from: usize,
+    to: usize,
+    pace: Pace,
+    told: Told,
+    dead_link: u32,
+    mtu: usize,
+    out: &mut [u8],
+    lengths: &mut [u16],
+    packer: Packer,
+    tally: Tally,
+) -> Written
+    requires { ⌜ slots ≡ length (now records) / 9 ⌝ }
+    requires { ⌜ from ≤ to ⌝ }
+    requires { ⌜ to ≤ slots ⌝ }
+    requires { ⌜ mtu ≤ 1500 ⌝ }
+    requires { ⌜ Fits told pace mtu (runOf from (to - from)) (pass (storeOf 8 (lists (now records) (now room))) (now out) (now lengths) packer tally) ⌝ }
+    ensures { λ r. ⌜ pass (storeOf 8 (lists (now (records .exit)) (now (room .entry)))) (now (out .exit)) (now (lengths .exit)) (r .packer) (r .tally)
+        ≡ passOver told pace «dead_link» mtu (runOf from (to - from)) (pass (storeOf 8 (lists (now (records .entry)) (now (room .entry)))) (now (out .entry)) (now (lengths .entry)) packer tally) ⌝ }
+{
+    let mut w = Written { packer, tally };
+    let mut q = from;
+    while q < to {
+        w = write_at(
+            records, room, slots, q, pace, told, dead_link, mtu, out, lengths, w.packer, w.tally,
+        );
+        q += 1;
+    }
+    w
+}
+
+// The segments in flight that go out, written.
+pub fn due_write(
+    ring: SndRing,
+    records: &mut [u32],
+    room: &[u8],
+    pace: Pace,
+    told: Told,
+    dead_link: u32,
+    mtu: usize,
+    out: &mut [u8],
+    lengths: &mut [u16],
+    packer: Packer,
+    tally: Tally,
+) -> Written
+    requires { ⌜ Sound 8 ring (storeOf 8 (lists (now records) (now room))) ⌝ }
+    requires { ⌜ mtu ≤ 1500 ⌝ }
+    requires { ⌜ Roomy mtu packer (now out) (now lengths) (piecesOver told pace (flightPlaces ring (storeOf 8 (lists (now records) (now room)))) (storeOf 8 (lists (now records) (now room)))) ⌝ }
+    ensures { λ r. ⌜ pass (storeOf 8 (lists (now (records .exit)) (now (room .entry)))) (now (out .exit)) (now (lengths .exit)) (r .packer) (r .tally)
+        ≡ passOver told pace «dead_link» mtu (flightPlaces ring (storeOf 8 (lists (now (records .entry)) (now (room .entry))))) (pass (storeOf 8 (lists (now (records .entry)) (now (room .entry)))) (now (out .entry)) (now (lengths .entry)) packer tally) ⌝ }
+{
+    let slots = snd_ring::slots_in(records.len());
+    let runs = flight::runs_of(slots, ring.start as usize, 0, ring.reach as usize);
+    let w = write_run(
+        records, room, slots, runs.from, runs.to, pace, told, dead_link, mtu, out, lengths, packer,
+        tally,
+    );
+    write_run(
+        records, room, slots, 0, runs.rest, pace, told, dead_link, mtu, out, lengths, w.packer,
+        w.tally,
+    )
 }

@@ -127,7 +127,7 @@ module _ (told : Told) (pace : Pace) where
       size-is : pieceSize (pushPiece told (sentOut pace (segmentOf (segmentAt 8 m q)))) ≡ sizeIn m q
       size-is = rw (payload-length m z q h f)
 
-  pieces-none : (m : Store) → piecesOver told pace [] m ≡ []
+  pub pieces-none : (m : Store) → piecesOver told pace [] m ≡ []
   unfolding piecesOver
   pieces-none m = refl
 
@@ -171,7 +171,7 @@ module _ (told : Told) (pace : Pace) where
 -- ---- what is counted
 
 module _ (deadLink : ℕ) (pace : Pace) where
-  tally-none : (m : Store) (t : Tally) → tallyOver deadLink pace [] m t ≡ t
+  pub tally-none : (m : Store) (t : Tally) → tallyOver deadLink pace [] m t ≡ t
   unfolding tallyOver
   tally-none m t = refl
 

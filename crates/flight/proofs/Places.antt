@@ -166,11 +166,12 @@ module _ (p s from n : ℕ) (inside : s < p) (many : from + n ≤ p) {q : ℕ} (
         low = omega arith;
         high = omega arith;
         behind = omega arith;
+        sum = omega arith;
       }
 
   pub covers-two : p - q < n → Covers p s from n (record { from = q; to = p; rest = n - (p - q) })
   covers-two h =
-      record { places = two-runs p s inside from n many (e .0) (omega arith); low = omega arith; high = omega arith; behind = omega arith }
+      record { places = two-runs p s inside from n many (e .0) (omega arith); low = omega arith; high = omega arith; behind = omega arith; sum = omega arith }
 
 -- ---- what is seen along the indices
 

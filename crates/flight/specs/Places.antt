@@ -1,6 +1,6 @@
 -- "fixed records and payload slots in lent memory, with order numbers": the places of a ring's indices, in order, as a list, so that a walk over them is
 -- one over a list, and a walk over two runs of places the one after the other. Assumes nothing.
-use Prim.Native.Nat.{ℕ, zero, suc, _-_, _≤_}
+use Prim.Native.Nat.{ℕ, zero, suc, _+_, _-_, _≤_}
 use mathlib.Core.Path.{_≡_}
 use mathlib.Core.List.{List, [], _∷_, _++_}
 use Rattle.ring.specs.Places.{place}
@@ -32,3 +32,4 @@ pub record Covers (slots start from n : ℕ) (r : Runs) : Type 0 where
   pub low : r .from ≤ r .to
   pub high : r .to ≤ slots
   pub behind : r .rest ≤ slots
+  pub sum : r .to - r .from + r .rest ≡ n

@@ -17,7 +17,7 @@ use Rattle.flushing.proofs.Packing.{pack-rest, rest-most}
 use Rattle.packing.specs.declared.«flush_ack».Packed.{Packed}
 use Rattle.packing.specs.declared.«flush_ack».Packed.the-variants.{Sent, OutTooSmall as NoRoom}
 use Rattle.packing.specs.Acks.{acksOf, ackBytes}
-use Rattle.packing.specs.FlushAck.{Writing, roomOf, placed}
+use Rattle.packing.specs.FlushAck.{Writing, roomOf, putOut}
 use Rattle.packing.specs.FlushAck as packing
 use Rattle.packing.proofs.AckBytes.{each-alike, ack-sizes}
 use Rattle.output.specs.Memory.{Out, toldOf, unsent, sentOff, acked, flushAckAt}
@@ -49,7 +49,7 @@ module _ (k : Kcp) (acks : List ℕ) (w : Writing) where
   by-packing : outOf k (packing.flushAckAt (toldOf k) (k .settings .mtu) acks n held w) ≡ flushAckAt k acks w
   unfolding packing.flushAckAt flushAckAt
   by-packing =
-      pick-ap (outOf k) (exceeds (roomOf w) (map length (packed .0))) (NoRoom, w) (Sent (length (packed .0)) (length (packed .1)), placed packed w)
+      pick-ap (outOf k) (exceeds (roomOf w) (map length (packed .0))) (NoRoom, w) (Sent (length (packed .0)) (length (packed .1)), putOut packed w)
 
   rest-small : k .settings .mtu ≤ 1500 → held ≤ 1500 → length (w .waiting) ≡ 1500 → length (packed .1) ≤ 1500
   rest-small m h l =
@@ -72,5 +72,5 @@ module _ (k : Kcp) (acks : List ℕ) (w : Writing) where
     unfolding packing.flushAckAt
     ack-small {u} f m h l =
         let b = exceeds (roomOf w) (map length (packed .0)) in
-        let c : u ≡ pick b 0 (length (packed .1)) = ap restOf (rw (told, f) at e) ∙ pick-ap restOf b (NoRoom, w) (Sent (length (packed .0)) (length (packed .1)), placed packed w) in
+        let c : u ≡ pick b 0 (length (packed .1)) = ap restOf (rw (told, f) at e) ∙ pick-ap restOf b (NoRoom, w) (Sent (length (packed .0)) (length (packed .1)), putOut packed w) in
         rw c (pick-at b (length (packed .1)) (rest-small m h l))

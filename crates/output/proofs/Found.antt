@@ -12,7 +12,7 @@ use Rattle.transmit.specs.Memory.{seen}
 use Rattle.flushing.specs.declared.due.Tally.{Tally}
 use Rattle.flushing.specs.Pack.{flat, packAllSizes}
 use Rattle.flushing.specs.Pieces.{Piece, pieceBytes, ackPieces, probePieces, duePieces, tallied, sentOut}
-use Rattle.flushing.specs.Rules.{Outgoing, sent, tally, piecesOf, flushed}
+use Rattle.flushing.specs.Rules.{Outgoing, movedOut, sent, tally, piecesOf, flushed}
 use Rattle.flushing.proofs.Packing.{all-sizes}
 use Rattle.flushing.proofs.Calls.{flush-joined}
 use Rattle.packing.specs.Acks.{acksFrom, acksOf}
@@ -21,7 +21,7 @@ use Rattle.output.proofs.FrontStub.{front-sizes, front-rule}
 use Rattle.flight.specs.Memory.{launchedSender, launchedAt, flightPlaces, waitingPlaces, piecesOver, sizesOver, freshSizes, tallyOver}
 use Rattle.flight.proofs.Seen.{seen-moved, seen-flown, leaving-few, launched-sound}
 use Rattle.flight.proofs.Out.{pieces-seen, sizes-seen, tally-seen, sizes-launched}
-use Rattle.output.specs.Memory.{outgoing, toldOf, planOf, sizesAt, movedAt, flownStore, afterFlush, piecesAt}
+use Rattle.output.specs.Memory.{outgoing, toldOf, planOf, sizesAt, movedAt, flownStore, afterFlush, piecesAt, tallyAt, settledBy}
 
 module _ (b : Kcp) (m : Store) (acks waiting : List ℕ) (o : Sound 8 (b .sender .ring) m) where
   abbrev asked : Outgoing
@@ -79,7 +79,7 @@ module _ (b : Kcp) (m : Store) (acks waiting : List ℕ) (o : Sound 8 (b .sender
   abbrev uncounted : Tally
   uncounted = record { xmit = b .sender .xmit; dead = b .sender .dead; lost = false; change = false }
 
-  pub tally-found : tallyOver (b .settings .«dead_link») (planOf b .pace) (flightPlaces (movedAt b m .sender .ring) (movedAt b m .store)) (movedAt b m .store) uncounted ≡ tally asked
+  pub tally-found : tallyAt b m ≡ tally asked
   unfolding outgoing
   tally-found =
       tally-seen (movedAt b m .sender) (movedAt b m .store) moved-sound (b .settings .«dead_link») (planOf b .pace) uncounted
@@ -108,3 +108,8 @@ module _ (b : Kcp) (m : Store) (acks waiting : List ℕ) (o : Sound 8 (b .sender
   pub flush-seen : outgoing after (flownStore b m) acks waiting ≡ flushed asked .after
   unfolding outgoing flushed acksFrom
   flush-seen = rw sending-after
+
+  -- the block's numbers are those of the rule
+  pub settled-found : settledBy b (movedAt b m .sender) (tallyAt b m) ≡ after
+  unfolding flushed outgoing launchedAt launchedSender seen movedOut
+  settled-found = rw (tally-found, ← next-found)

@@ -1,31 +1,36 @@
 -- "As `flush`, `flush_ack`, `update` and `check`, with datagrams put end to end in lent bytes and their lengths in a lent list; .. lent bytes and lengths
 -- past those written stay": what they leave of the block and of every lent number and byte. The datagrams of a flush are those of the rules
 -- (flushing/specs/Rules), asked of what is seen in the memory; the send ring afterwards is that of flight/specs/Memory. Assumes nothing.
-use Prim.Native.Nat.{ℕ}
+use Prim.Native.Nat.{ℕ, _+_, _≤_, _<_, _^_}
+use mathlib.Core.Bool.{false}
 use mathlib.Core.List.{List, [], _++_, map}
 use lib.ListN.{length, take}
 use Rattle.serial.specs.Branch.{pick}
-use Rattle.serial.specs.Wrap.{add32}
+use Rattle.serial.specs.Wrap.{add32, sub32}
+use Rattle.ring.specs.Records.{put}
 use Rattle.snd_ring.specs.declared.SndRing.{SndRing}
 use Rattle.snd_ring.specs.Store.{Store}
 use Rattle.block.specs.declared.Kcp.{Kcp}
+use Rattle.block.specs.declared.sender.Sender.{Sender}
 use Rattle.block.specs.declared.refusal.Answer.{Answer}
 use Rattle.block.specs.declared.refusal.Answer.the-variants.{Done, Refused}
 use Rattle.block.specs.declared.refusal.Refusal.{Refusal}
 use Rattle.block.specs.declared.refusal.Refusal.the-variants.{NeedUpdate, OutTooSmall}
 use Rattle.block.specs.Parts.{withClock, withCongestion, withProbe, withAckList, withSender}
 use Rattle.transmit.specs.Memory.{seen, Side}
+use Rattle.flushing.specs.declared.due.Tally.{Tally}
 use Rattle.flushing.specs.declared.headers.Told.{Told}
-use Rattle.flushing.specs.Pack.{pack}
-use Rattle.flushing.specs.Windows.{wndUnused, windowOf, leaving}
+use Rattle.flushing.specs.Pack.{flat, pack, packAllSizes}
+use Rattle.flushing.specs.Windows.{wndUnused, windowOf, leaving, congestionAfter}
 use Rattle.flushing.specs.Probing.{probeWndSize}
 use Rattle.flushing.specs.Due.{paceOf}
 use Rattle.flushing.specs.Clocks.{ticked}
 use Rattle.flushing.specs.Rules.{Outgoing, exceeds, flushed, checkRule}
+use Rattle.packing.specs.declared.packer.Packer.{Packer}
 use Rattle.packing.specs.Acks.{acksOf, ackBytes}
 use Rattle.packing.specs.Front.{frontPieces, frontSizes}
-use Rattle.packing.specs.FlushAck.{Writing, writing, roomOf, placed}
-use Rattle.flight.specs.Memory.{flightPlaces, waitingPlaces, launchedAt, flownOver, piecesOver, sizesOver, freshSizes}
+use Rattle.packing.specs.FlushAck.{Writing, writing, roomOf, putOut}
+use Rattle.flight.specs.Memory.{flightPlaces, waitingPlaces, launchedAt, flownOver, tallyOver, piecesOver, sizesOver, freshSizes}
 use Rattle.output.specs.declared.Plan.{Plan}
 
 -- ---- what the calls see
@@ -66,7 +71,7 @@ unsent k w why = record { block = k; answer = Refused why; datagrams = 0; writte
 
 -- done: these datagrams went out, and these bytes wait
 abbrev pub sentOff : Kcp → List (List ℕ) × List ℕ → Writing → Out
-sentOff k packed w = record { block = k; answer = Done; datagrams = length (packed .0); written = placed packed w }
+sentOff k packed w = record { block = k; answer = Done; datagrams = length (packed .0); written = putOut packed w }
 
 -- no ack is left, and so many bytes wait
 abbrev pub acked : Kcp → ℕ → Kcp
@@ -101,16 +106,60 @@ movedAt k m = launchedAt (k .settings .conv) (k .clock .current) (k .estimator .
 abbrev pub flownStore : Kcp → Store → Store
 flownStore k m = flownOver (planOf k .pace) (flightPlaces (movedAt k m .sender .ring) (movedAt k m .store)) (movedAt k m .store)
 
+-- the segments that go out
+abbrev pub segmentsOf : Kcp → Store → List (List ℕ)
+segmentsOf k m = piecesOver (toldOf k) (planOf k .pace) (flightPlaces (movedAt k m .sender .ring) (movedAt k m .store)) (movedAt k m .store)
+
 -- what goes out, in order: acks, ask and tell, then the segments in flight that go out; and the sizes of that by what is found before anything changes
 unfoldable pub piecesAt : Kcp → Store → List ℕ → List (List ℕ)
 piecesAt k m acks =
-    frontPieces (toldOf k) (planOf k .probe .bits) (acksOf acks (k .acklist .acks))
-    ++ piecesOver (toldOf k) (planOf k .pace) (flightPlaces (movedAt k m .sender .ring) (movedAt k m .store)) (movedAt k m .store)
+    frontPieces (toldOf k) (planOf k .probe .bits) (acksOf acks (k .acklist .acks)) ++ segmentsOf k m
 
 unfoldable pub sizesAt : Kcp → Store → List ℕ
 sizesAt k m =
     frontSizes (k .acklist .acks) (planOf k .probe .bits)
     ++ (sizesOver (planOf k .pace) (flightPlaces (k .sender .ring) m) m ++ freshSizes (waitingPlaces (k .sender .ring) m (planOf k .leavers)) m)
+
+-- what the segments leave, behind a packing that has come as far as p: they are launched, looked at and written, and what waits then goes out
+pub record Rear : Type 0 where
+  pub sender : Sender
+  pub tally : Tally
+  pub store : Store
+  pub out : List ℕ
+  pub lengths : List ℕ
+
+abbrev pub tallyAt : Kcp → Store → Tally
+tallyAt k m =
+    tallyOver (k .settings .«dead_link») (planOf k .pace) (flightPlaces (movedAt k m .sender .ring) (movedAt k m .store)) (movedAt k m .store)
+    (record { xmit = k .sender .xmit; dead = k .sender .dead; lost = false; change = false })
+
+abbrev pub rearAt : Kcp → Store → List ℕ → List ℕ → Packer → Rear
+rearAt k m out lengths p = record {
+  sender = movedAt k m .sender;
+  tally = tallyAt k m;
+  store = flownStore k m;
+  out = put out (p .start + p .used) (flat (segmentsOf k m));
+  lengths = put lengths (p .count) (packAllSizes (k .settings .mtu) (p .used) (map length (segmentsOf k m)));
+}
+
+-- they fit what is lent
+pub record RearFits (k : Kcp) (m : Store) (out lengths : List ℕ) (p : Packer) : Type 0 where
+  pub small : p .used ≤ 1500
+  pub bytes : p .start + p .used + length (flat (segmentsOf k m)) ≤ length out
+  pub few : p .start + p .used + length (flat (segmentsOf k m)) < 2 ^ 32
+  pub cuts : p .count + length (packAllSizes (k .settings .mtu) (p .used) (map length (segmentsOf k m))) ≤ length lengths
+
+-- the block with these numbers of a flush: the windows, the probe, whose bits are used up, and the sending side
+abbrev pub settledBy : Kcp → Sender → Tally → Kcp
+settledBy k s t =
+    let p = planOf k in
+    withSender
+    (acked
+    (withProbe
+    (withCongestion k (congestionAfter (k .settings .mss) (sub32 (s .«snd_nxt») (s .«snd_una»)) (p .pace .resent) (p .window) (t .change) (t .lost) (k .congestion)))
+    (record { bits = 0; «ts_probe» = p .probe .«ts_probe»; «probe_wait» = p .probe .«probe_wait» }))
+    0)
+    (record { «snd_una» = s .«snd_una»; «snd_nxt» = s .«snd_nxt»; ring = s .ring; xmit = t .xmit; dead = t .dead })
 
 -- the block b with what a flush of it leaves; the ring has moved on
 abbrev pub afterFlush : Kcp → SndRing → Outgoing → Kcp

@@ -1,12 +1,11 @@
 -- The laws of the acks' bytes and of a probe's, for the loops and tests that put them. Assumes nothing.
 use Prim.Native.Nat.{ℕ, zero, suc, _+_, _*_, _-_, _≤_, _<_}
-use native.Mathlib.Nat.{add-comm, mul-suc, add-zero, zero-add}
-use native.Mathlib.Numerals.{add-one}
+use native.Mathlib.Nat.{add-comm, mul-suc, zero-add}
 use native.Mathlib.Omega.{arith}
 use mathlib.Core.Path.{_≡_, refl, sym, ap, _∙_}
 use mathlib.Core.Bool.{Bool, true, false}
-use mathlib.Core.List.{List, [], _∷_, _++_, map, append-nil, append-assoc}
-use lib.ListN.{length, take, drop, replicate}
+use mathlib.Core.List.{List, [], _∷_, _++_, map, append-nil}
+use lib.ListN.{length, replicate}
 use Rattle.serial.specs.Branch.{pick, pick-ap}
 use Rattle.ring.specs.Records.{put, numberAt}
 use Rattle.ring.proofs.Sequences.{map-append}
@@ -16,11 +15,12 @@ use Rattle.flushing.specs.declared.headers.Told.{Told}
 use Rattle.flushing.specs.Pack.{flat, sumOf, packSizes, goesSize}
 use Rattle.flushing.specs.Pieces.{Ack, Piece, pieceBytes, bareHead, ackPieces, lastAckOf, lastAck, probePiece}
 use Rattle.flushing.proofs.Packing.{AtMost, flat-append, length-flat}
+use Rattle.flushing.proofs.Calls.{header-size, piece-sizes, ack-piece-sizes}
 use Rattle.packing.specs.declared.packer.Packer.{Packer}
 use Rattle.packing.specs.Packer.{sized}
-use Rattle.packing.specs.Acks.{ackAt, acksFrom, acksOf, ackBytes, probeHead}
+use Rattle.packing.specs.Acks.{pairAt, acksFrom, acksOf, ackBytes, probeHead}
 use Rattle.packing.proofs.Laying.{Laying, laying-on, put-none}
-use Rattle.packing.proofs.Turns.{Going, Cutting, cuts-one, sized-none}
+use Rattle.packing.proofs.Turns.{cuts-one, sized-none}
 
 -- ---- n pieces of k bytes
 
@@ -45,15 +45,16 @@ alike-none n i k h = let e : n - i ≡ 0 = omega arith in rw e
 
 -- ---- the acks
 
-header-size : (h : Header) → length (headerBytes h) ≡ 24
-unfolding headerBytes
-header-size h = refl
+pub acks-count : (acks : List ℕ) (i n : ℕ) → length (acksFrom acks i n) ≡ n
+unfolding acksFrom
+acks-count acks i zero = refl
+acks-count acks i (suc n) = ap suc (acks-count acks (suc i) n)
 
 module _ (t : Told) (acks : List ℕ) where
   pub ack-sizes : (i n : ℕ) → map length (ackBytes t (acksFrom acks i n)) ≡ replicate n 24
-  unfolding acksFrom
-  ack-sizes i zero = refl
-  ack-sizes i (suc n) = rw (append-nil, header-size, ack-sizes (suc i) n)
+  ack-sizes i n =
+      let l = acksFrom acks i n in
+      piece-sizes (ackPieces t l) ∙ ack-piece-sizes t l ∙ ap (λ (k : ℕ). replicate k 24) (acks-count acks i n)
 
   pub acks-length : (i n : ℕ) → length (flat (ackBytes t (acksFrom acks i n))) ≡ 24 * n
   acks-length i n = length-flat (ackBytes t (acksFrom acks i n)) ∙ ap sumOf (ack-sizes i n) ∙ total-alike n 24
@@ -102,10 +103,10 @@ module _ (t : Told) (acks : List ℕ) where
 
 -- ---- probes
 
-last-from : (acks : List ℕ) (i n : ℕ) (a : Ack) → lastAckOf a (acksFrom acks i (suc n)) ≡ ackAt acks (i + n)
+last-from : (acks : List ℕ) (i n : ℕ) (a : Ack) → lastAckOf a (acksFrom acks i (suc n)) ≡ pairAt acks (i + n)
 unfolding lastAckOf acksFrom
 last-from acks i zero a = let e : i + 0 ≡ i = omega arith in rw e
-last-from acks i (suc n) a = let e : suc i + n ≡ i + suc n = omega arith in rw e at (last-from acks (suc i) n (ackAt acks i))
+last-from acks i (suc n) a = let e : suc i + n ≡ i + suc n = omega arith in rw e at (last-from acks (suc i) n (pairAt acks i))
 
 module _ (t : Told) (acks : List ℕ) (n cmd : ℕ) (h : Header) where
   pub probe-none : n ≡ 0 → h ≡ bareHead t cmd 0 0 → headerBytes h ≡ probeHead t cmd (acksOf acks n)
@@ -116,7 +117,7 @@ module _ (t : Told) (acks : List ℕ) (n cmd : ℕ) (h : Header) where
       → headerBytes h ≡ probeHead t cmd (acksOf acks n)
   probe-some sn ts z a b e =
       let k : n ≡ suc (n - 1) = omega (arith, z) in
-      let l : lastAck (acksOf acks n) ≡ ackAt acks (n - 1) =
+      let l : lastAck (acksOf acks n) ≡ pairAt acks (n - 1) =
       ap (λ (i : ℕ). lastAck (acksOf acks i)) k ∙ last-from acks 0 (n - 1) _ ∙ rw zero-add in
       rw (e, a, b, l)
 

@@ -3,7 +3,7 @@ use Prim.Native.Nat.{ℕ, zero, suc, _+_, _*_, _-_, _/_, _≤_, _<_}
 use native.Mathlib.Nat.{zero-add, mul-suc}
 use native.Mathlib.Omega.{arith}
 use mathlib.Core.Path.{_≡_, refl, sym, ap, _∙_}
-use mathlib.Core.Bool.{Bool, true, false, _||_}
+use mathlib.Core.Bool.{Bool, true, false}
 use mathlib.Core.List.{List, [], _∷_, _++_, map, append-assoc}
 use lib.ListN.{length, take, drop, replicate, length-append, length-map}
 use lib.Seq.{take-at, drop-at, length-take-le}
@@ -14,16 +14,15 @@ use Rattle.ring.specs.Records.{put}
 use Rattle.ring.proofs.Rows.{put-put}
 use Rattle.flushing.specs.declared.headers.Told.{Told}
 use Rattle.flushing.specs.Pack.{flat, sumOf, datagramSize, goesSize, staysSize, pack, packSizes}
-use Rattle.flushing.specs.Rules.{Room, exceeds}
+use Rattle.flushing.specs.Rules.{Outgoing, toldBy, flushedAck, exceeds}
 use Rattle.flushing.proofs.Packing.{length-flat, pack-sizes, pack-rest, joined, rest-most}
 use Rattle.packing.specs.declared.packer.Packer.{Packer}
-use Rattle.packing.specs.declared.«flush_ack».Packed.{Packed}
 use Rattle.packing.specs.declared.«flush_ack».Packed.the-variants.{Sent, OutTooSmall}
 use Rattle.packing.specs.Packer.{holding, sized}
 use Rattle.packing.specs.Acks.{acksFrom, acksOf, ackBytes}
-use Rattle.packing.specs.FlushAck.{Writing, writing, placed, flushAckAt}
-use Rattle.packing.proofs.Laying.{put-none, put-own}
-use Rattle.packing.proofs.Turns.{sized-sum, sized-used}
+use Rattle.packing.specs.FlushAck.{Writing, writing, roomOf, putOut, flushAckAt}
+use Rattle.packing.proofs.Laying.{put-none, put-own, put-start}
+use Rattle.packing.proofs.Turns.{sized-sum}
 use Rattle.packing.proofs.AckBytes.{each-alike, total-alike, ack-sizes, acks-length, acks-split}
 
 -- ---- whole pieces
@@ -126,7 +125,7 @@ module _ (t : Told) (acks : List ℕ) (mtu n held : ℕ) where
 
     -- nothing goes out: all acks join the waiting bytes
     pub waits : p .count ≡ 0 → (x : List ℕ) → x ≡ put waiting held (flat (ackBytes t (acksFrom acks 0 (n - 0))))
-        → writing x out lengths ≡ placed (packed w) (writing waiting out lengths)
+        → writing x out lengths ≡ putOut (packed w) (writing waiting out lengths)
     unfolding flat
     waits z x e =
         let all = flat (ackBytes t (acksOf acks n)) in
@@ -143,7 +142,7 @@ module _ (t : Told) (acks : List ℕ) (mtu n held : ℕ) where
         → y ≡ put o held (flat (ackBytes t (acksFrom acks 0 (k - 0))))
         → x ≡ put waiting 0 (flat (ackBytes t (acksFrom acks k (n - k))))
         → z ≡ put lengths 0 (packSizes mtu held (replicate n 24) .0)
-        → writing x y z ≡ placed (packed w) (writing waiting out lengths)
+        → writing x y z ≡ putOut (packed w) (writing waiting out lengths)
     sends c g k e x y o z eo ey ex ez =
         let fore = flat (ackBytes t (acksFrom acks 0 k)) in
         let rest = flat (ackBytes t (acksFrom acks k (n - k))) in
@@ -170,9 +169,23 @@ module _ (t : Told) (acks : List ℕ) (mtu n held : ℕ) where
     unfolding flushAckAt exceeds pick
     no-lengths g h = rw (← f .start, ← f .count, le-ltb (length (m .out)) (p .start) g, lt-ltb (length (m .lengths)) (p .count) h)
 
-    pub fits : p .start ≤ length (m .out) → p .count ≤ length (m .lengths) → (k : Writing) → k ≡ placed (packed (take held (m .waiting))) m
+    pub fits : p .start ≤ length (m .out) → p .count ≤ length (m .lengths) → (k : Writing) → k ≡ putOut (packed (take held (m .waiting))) m
         → (Sent (p .count) (p .used), k) ≡ flushAckAt t mtu acks n held m
     unfolding flushAckAt exceeds pick
     fits g h k e =
         let c : length (packed (take held (m .waiting)) .0) ≡ p .count = sym (length-map (packed (take held (m .waiting)) .0) length) ∙ sym (f .count) in
         rw (← f .start, ← f .count, le-ltb (length (m .out)) (p .start) g, le-ltb (length (m .lengths)) (p .count) h) (rw (e, c, ← f .used))
+
+-- ---- the rule
+
+-- what is put at the start can be taken from it
+pub put-view : (l x : List ℕ) → take (length x) (put l 0 x) ≡ x
+put-view l x = ap (take (length x)) (put-start l x) ∙ take-at x (drop (length x) l) (length x) refl
+
+-- in lent memory it is what the rule makes of the block whose acks and waiting bytes stand there
+pub by-rule : (o : Outgoing) (acks : List ℕ) (n held : ℕ) (m : Writing) → o .acks ≡ acksOf acks n → o .waiting ≡ take held (m .waiting)
+    → let after = flushedAck o in
+    flushAckAt (toldBy o) (o .settings .mtu) acks n held m
+    ≡ pick (exceeds (roomOf m) (map length (after .datagrams))) (OutTooSmall, m) (Sent (length (after .datagrams)) (length (after .after .waiting)), putOut (after .datagrams, after .after .waiting) m)
+unfolding flushAckAt flushedAck
+by-rule o acks n held m a w = rw (a, w)

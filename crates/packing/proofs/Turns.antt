@@ -1,7 +1,7 @@
 -- The laws of a packing by numbers: one piece by the tests that the code makes, and a loop over pieces of any sizes, said from where it stands.
 -- Assumes nothing.
-use Prim.Native.Nat.{ℕ, zero, suc, _+_, _≤_, _<_}
-use native.Mathlib.Nat.{add-assoc, add-zero}
+use Prim.Native.Nat.{ℕ, zero, suc, _+_, _*_, _≤_}
+use native.Mathlib.Nat.{add-assoc, add-zero, mul-suc}
 use native.Mathlib.Omega.{arith}
 use mathlib.Core.Path.{_≡_, refl, sym, ap, _∙_}
 use mathlib.Core.Bool.{Bool, true, false}
@@ -16,7 +16,7 @@ use Rattle.flushing.specs.Pack.{flat, sumOf, datagramSize, goesSize, staysSize,
 use Rattle.flushing.proofs.Packing.{AtMost, flat-append, length-flat, sum-append, sizes-sum, all-sum, rest-most}
 use Rattle.packing.specs.declared.packer.Packer.{Packer}
 use Rattle.packing.specs.Packer.{departs, sized, closed}
-use Rattle.packing.proofs.Laying.{Laying, laying-start, laying-length, laying-fits, laying-on, laying-end}
+use Rattle.packing.proofs.Laying.{Laying, laying-start, laying-fits, laying-on, laying-end}
 
 -- ---- one piece
 
@@ -49,18 +49,18 @@ departs-some mtu n k h = rw (lt-ltb 0 n (omega (arith, h)))
 
 -- what the packer becomes, and what is put into the lengths
 module _ (mtu : ℕ) (p : Packer) (k : ℕ) where
-  pub leaves : (t : Bool) → t ≡ departs mtu (p .used) k → t ≡ true
+  pub turn-leaves : (t : Bool) → t ≡ departs mtu (p .used) k → t ≡ true
       → (_≡_ {A = Packer} (record { start = p .start + p .used; used = k; count = p .count + 1 }) (sized mtu p (k ∷ []))) × (goesSize mtu (p .used) k ≡ p .used ∷ [])
   unfolding sized packSizes sumOf pick
-  leaves t e h =
+  turn-leaves t e h =
       let d : departs mtu (p .used) k ≡ true = sym e ∙ h in
       let g : goesSize mtu (p .used) k ≡ p .used ∷ [] = rw (goes-by mtu (p .used) k, d) in
       (sym (simp (g, stays-by mtu (p .used) k, d, add-zero)), g)
 
-  pub joins : (t : Bool) → t ≡ departs mtu (p .used) k → t ≡ false
+  pub turn-joins : (t : Bool) → t ≡ departs mtu (p .used) k → t ≡ false
       → (_≡_ {A = Packer} (record { start = p .start; used = p .used + k; count = p .count }) (sized mtu p (k ∷ []))) × (goesSize mtu (p .used) k ≡ [])
   unfolding sized packSizes sumOf pick
-  joins t e h =
+  turn-joins t e h =
       let d : departs mtu (p .used) k ≡ false = sym e ∙ h in
       let g : goesSize mtu (p .used) k ≡ [] = rw (goes-by mtu (p .used) k, d) in
       (sym (simp (g, stays-by mtu (p .used) k, d, add-zero)), g)
@@ -103,15 +103,6 @@ module _ (mtu : ℕ) where
   unfolding packSizes
   rest-append n [] js = refl
   rest-append n (k ∷ ks) js = rest-append (staysSize mtu n k) ks js
-
-  -- the same where nothing is left to wait
-  pub all-append : (n : ℕ) (ks js : List ℕ) → packAllSizes mtu n (ks ++ js) ≡ packSizes mtu n ks .0 ++ packAllSizes mtu (packSizes mtu n ks .1) js
-  unfolding packAllSizes
-  all-append n ks js = rw (cuts-append n ks js, rest-append n ks js, append-assoc)
-
-  pub all-none : (n : ℕ) → packAllSizes mtu n [] ≡ datagramSize n
-  unfolding packAllSizes packSizes
-  all-none n = refl
 
   -- one piece
   pub cuts-one : (n k : ℕ) → packSizes mtu n (k ∷ []) .0 ≡ goesSize mtu n k
@@ -181,6 +172,12 @@ at-most-rest : (b : ℕ) (ks js : List ℕ) → AtMost b (ks ++ js) → AtMost b
 at-most-rest b [] js h = (tt, h)
 at-most-rest b (k ∷ ks) js h = let i = at-most-rest b ks js (h .1) in ((h .0, i .0), i .1)
 
+-- the bytes of pieces of at most b bytes each
+pub total-most : (b : ℕ) (ks : List ℕ) → AtMost b ks → sumOf ks ≤ b * length ks
+unfolding sumOf
+total-most b [] h = omega arith
+total-most b (k ∷ ks) h = rw (mul-suc b (length ks)) (omega (arith, h .0, total-most b ks (h .1)))
+
 pub record Going (mtu : ℕ) (p : Packer) (ks : List ℕ) (r : Packer) : Type 0 where
   pub same : sized mtu p ks ≡ r
   pub small : p .used ≤ 1500
@@ -249,6 +246,10 @@ module _ {mtu : ℕ} {p : Packer} {l : List ℕ} {r : Packer} {m : List ℕ} whe
   unfolding packSizes
   cutting-fits {k} {ks} g = laying-fits (goesSize mtu (p .used) k) (packSizes mtu (staysSize mtu (p .used) k) ks .0) (g .cuts)
 
+  -- and what several ask
+  pub cutting-stage-fits : (ks js : List ℕ) → Cutting mtu p l (ks ++ js) r m → p .count + length (packSizes mtu (p .used) ks .0) ≤ length l
+  cutting-stage-fits ks js g = laying-fits (packSizes mtu (p .used) ks .0) _ (rw (cuts-append mtu (p .used) ks js) at (g .cuts))
+
   pub cutting-stage : (ks js : List ℕ) (q : Packer) (n : List ℕ) → Cutting mtu p l (ks ++ js) r m → mtu ≤ 1500 → q ≡ sized mtu p ks
       → n ≡ put l (p .count) (packSizes mtu (p .used) ks .0) → Cutting mtu q n js r m
   cutting-stage ks js q n g a e f =
@@ -273,12 +274,23 @@ pub record Packing (mtu : ℕ) (p : Packer) (out l : List ℕ) (ps : List (List 
   pub cutting : Cutting mtu p l (map length ps) r m
   pub bytes : Laying out (p .start + p .used) (flat ps) o
 
+pub packing-start : (mtu : ℕ) (p : Packer) (out l : List ℕ) (ps : List (List ℕ)) → p .used ≤ 1500 → AtMost 1500 (map length ps)
+    → p .start + p .used + length (flat ps) ≤ length out → p .count + length (packSizes mtu (p .used) (map length ps) .0) ≤ length l
+    → Packing mtu p out l ps (sized mtu p (map length ps)) (put out (p .start + p .used) (flat ps)) (put l (p .count) (packSizes mtu (p .used) (map length ps) .0))
+packing-start mtu p out l ps h a b c = record { cutting = cutting-start mtu p l (map length ps) h a c; bytes = laying-start out (p .start + p .used) (flat ps) b }
+
 module _ {mtu : ℕ} {p : Packer} {out l : List ℕ} {r : Packer} {o m : List ℕ} where
   -- what the next piece asks of the lists
   pub packing-fits : {x : List ℕ} {ps : List (List ℕ)} → Packing mtu p out l (x ∷ ps) r o m
       → (p .start + p .used + length x ≤ length out) × (p .count + length (goesSize mtu (p .used) (length x)) ≤ length l)
   unfolding flat
   packing-fits {x} {ps} g = (laying-fits x (flat ps) (g .bytes), cutting-fits (g .cutting))
+
+  -- and what several ask
+  pub packing-stage-fits : (ps qs : List (List ℕ)) → Packing mtu p out l (ps ++ qs) r o m
+      → (p .start + p .used + length (flat ps) ≤ length out) × (p .count + length (packSizes mtu (p .used) (map length ps) .0) ≤ length l)
+  packing-stage-fits ps qs g =
+      (laying-fits (flat ps) (flat qs) (rw (flat-append ps qs) at (g .bytes)), cutting-stage-fits (map length ps) (map length qs) (rw (map-append length ps qs) at (g .cutting)))
 
   pub packing-stage : (ps qs : List (List ℕ)) (q : Packer) (b n : List ℕ) → Packing mtu p out l (ps ++ qs) r o m → mtu ≤ 1500 → q ≡ sized mtu p (map length ps)
       → b ≡ put out (p .start + p .used) (flat ps) → n ≡ put l (p .count) (packSizes mtu (p .used) (map length ps) .0) → Packing mtu q b n qs r o m

@@ -8,13 +8,13 @@ use Rattle.flushing.specs.declared.headers.Told.{Told}
 use Rattle.flushing.specs.Pieces.{Ack, pieceBytes, bareHead, ackPieces, lastAck}
 
 -- pair i: the number of the push, then its time
-abbrev pub ackAt : List ℕ → ℕ → Ack
-ackAt acks i = record { sn = numberAt 2 acks i 0; ts = numberAt 2 acks i 1 }
+abbrev pub pairAt : List ℕ → ℕ → Ack
+pairAt acks i = record { sn = numberAt 2 acks i 0; ts = numberAt 2 acks i 1 }
 
 -- n acks from pair i on
 unfoldable pub acksFrom : List ℕ → ℕ → ℕ → List Ack
 acksFrom acks i zero = []
-acksFrom acks i (suc n) = ackAt acks i ∷ acksFrom acks (suc i) n
+acksFrom acks i (suc n) = pairAt acks i ∷ acksFrom acks (suc i) n
 
 -- the first n
 abbrev pub acksOf : List ℕ → ℕ → List Ack

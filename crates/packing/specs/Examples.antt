@@ -1,4 +1,4 @@
--- flush_ack in lent memory on closed cases. Assumes nothing.
+-- flush_ack in lent memory, and a probe, on closed cases. Assumes nothing.
 use Prim.Native.Nat.{ℕ, _-_}
 use mathlib.Core.Path.{_≡_, refl}
 use mathlib.Core.List.{List, [], _∷_, _++_}
@@ -8,10 +8,10 @@ use Rattle.ring.specs.Records.{put}
 use Rattle.wire.specs.Header.{headerBytes}
 use Rattle.flushing.specs.declared.headers.Told.{Told}
 use Rattle.flushing.specs.Pack.{flat, sumOf, datagramOf, goes, stays, pack}
-use Rattle.flushing.specs.Pieces.{bareHead}
+use Rattle.flushing.specs.Pieces.{bareHead, lastAckOf}
 use Rattle.flushing.specs.Rules.{exceeds}
 use Rattle.packing.specs.declared.«flush_ack».Packed.the-variants.{Sent, OutTooSmall}
-use Rattle.packing.specs.Acks.{acksFrom}
+use Rattle.packing.specs.Acks.{acksFrom, acksOf, probeHead}
 use Rattle.packing.specs.FlushAck.{writing, flushAckAt}
 
 told : Told
@@ -54,3 +54,8 @@ refuses : (flushAckAt told 50 acks 2 24 (writing (waits 24) (replicate 47 5) (6 
     × (flushAckAt told 50 acks 2 24 (writing (waits 24) (replicate 48 5) []) ≡ (OutTooSmall, writing (waits 24) (replicate 48 5) []))
 unfolding told acks waits flushAckAt acksFrom headerBytes exceeds pack goes stays datagramOf flat sumOf pick put
 refuses = (refl, refl)
+
+-- a probe carries the last ack, else 0
+probes : (probeHead told 83 (acksOf acks 2) ≡ headerBytes (bareHead told 83 11 51)) × (probeHead told 84 (acksOf acks 0) ≡ headerBytes (bareHead told 84 0 0))
+unfolding told acks acksFrom lastAckOf
+probes = (refl, refl)

@@ -27,11 +27,11 @@ abbrev pub roomOf : Writing → Room
 roomOf m = record { bytes = length (m .out); lengths = length (m .lengths) }
 
 -- datagrams, and what waits after them: each from the start on, and all else as it was
-abbrev pub placed : List (List ℕ) × List ℕ → Writing → Writing
-placed packed m = writing (put (m .waiting) 0 (packed .1)) (put (m .out) 0 (flat (packed .0))) (put (m .lengths) 0 (map length (packed .0)))
+abbrev pub putOut : List (List ℕ) × List ℕ → Writing → Writing
+putOut packed m = writing (put (m .waiting) 0 (packed .1)) (put (m .out) 0 (flat (packed .0))) (put (m .lengths) 0 (map length (packed .0)))
 
 -- the first n acks, packed behind the first `held` of the waiting bytes
 unfoldable pub flushAckAt : Told → ℕ → List ℕ → ℕ → ℕ → Writing → Packed × Writing
 flushAckAt told mtu acks n held m =
     let packed = pack mtu (take held (m .waiting)) (ackBytes told (acksOf acks n)) in
-    pick (exceeds (roomOf m) (map length (packed .0))) (OutTooSmall, m) (Sent (length (packed .0)) (length (packed .1)), placed packed m)
+    pick (exceeds (roomOf m) (map length (packed .0))) (OutTooSmall, m) (Sent (length (packed .0)) (length (packed .1)), putOut packed m)

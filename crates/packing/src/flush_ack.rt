@@ -5,7 +5,7 @@ ghost use lib.ListN.{length, replicate, take};
 ghost use Rattle.flushing.specs.Pack.{pack};
 ghost use Rattle.packing.specs.Packer.{holding, sized};
 ghost use Rattle.packing.specs.Acks.{acksOf, ackBytes};
-ghost use Rattle.packing.specs.FlushAck.{writing, placed, flushAckAt};
+ghost use Rattle.packing.specs.FlushAck.{writing, putOut, flushAckAt};
 use crate::acks::acks_cut;
 use crate::acks::acks_sized;
 use crate::acks::put_acks;
@@ -51,7 +51,7 @@ fn flush_ack_write(
     requires { ⌜ p .start ≤ length (now out) ⌝ }
     requires { ⌜ p .count ≤ length (now lengths) ⌝ }
     ensures { λ _. ⌜ writing (now (waiting .exit)) (now (out .exit)) (now (lengths .exit))
-        ≡ placed (pack mtu (take held (now (waiting .entry))) (ackBytes told (acksOf (now (acks .entry)) n))) (writing (now (waiting .entry)) (now (out .entry)) (now (lengths .entry))) ⌝ }
+        ≡ putOut (pack mtu (take held (now (waiting .entry))) (ackBytes told (acksOf (now (acks .entry)) n))) (writing (now (waiting .entry)) (now (out .entry)) (now (lengths .entry))) ⌝ }
 {
     if p.count == 0 {
         put_acks(told, acks, 0, n, waiting, held);

@@ -44,8 +44,15 @@ size-run-requires-2 c κs =
 returns : tie.Need-returns
 returns c =
     let a = c .before .before .before .before .before .before .before .args in
-    λ room. rw (runs-by (a .records .now) (c .before .before .before .before .before .slots-in .ensures) room (a .ring .start) 0 (a .ring .reach) (c .before .before .runs-of .ensures))
-    (sizes-both (a .mtu) (storeOf 8 (lists (a .records .now) room)) _ _ (a .packer) (a .pace) (c .before .size-run .ensures .0 room) (c .size-run2 .ensures .0 room))
+    let u = c .before .before .runs-of .ensures in
+    let low = u .low in
+    let sum = u .sum in
+    let g = c .before .size-run .ensures .1 in
+    let h = c .size-run2 .ensures .1 in (
+      λ room. rw (runs-by (a .records .now) (c .before .before .before .before .before .slots-in .ensures) room (a .ring .start) 0 (a .ring .reach) (c .before .before .runs-of .ensures))
+    (sizes-both (a .mtu) (storeOf 8 (lists (a .records .now) room)) _ _ (a .packer) (a .pace) (c .before .size-run .ensures .0 room) (c .size-run2 .ensures .0 room)),
+      (omega arith, omega arith),
+    )
 
 pub due-sizes-spec : {M : Type 1} → statement M
 due-sizes-spec =

@@ -1,8 +1,8 @@
 -- `acks_cut` meets its contract: a turn for each ack. Assumes nothing.
-use Prim.Native.Nat.{ℕ, _+_, _-_, _*_, _≤_, _<_}
-use mathlib.Core.Path.{_≡_, refl, sym, ap, _∙_}
+use Prim.Native.Nat.{_-_, _≤_}
+use mathlib.Core.Path.{refl}
 use native.Mathlib.Omega.{arith}
-use lib.ListN.{length, replicate, length-replicate}
+use lib.ListN.{replicate}
 use Rattle.ring.specs.Records.{put}
 use Rattle.flushing.specs.Pack.{packSizes}
 use Rattle.packing.specs.Packer.{sized}

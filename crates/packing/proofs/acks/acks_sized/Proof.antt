@@ -1,8 +1,8 @@
 -- `acks_sized` meets its contract: a turn for each ack. Assumes nothing.
-use Prim.Native.Nat.{ℕ, _+_, _-_, _*_, _≤_, _<_}
-use mathlib.Core.Path.{_≡_, refl, sym, ap, _∙_}
+use Prim.Native.Nat.{ℕ, _-_, _≤_}
+use mathlib.Core.Path.{refl}
 use native.Mathlib.Omega.{arith}
-use lib.ListN.{length, replicate, length-replicate}
+use lib.ListN.{replicate, length-replicate}
 use Rattle.packing.specs.Packer.{sized}
 use Rattle.packing.proofs.Turns.{Going, going-start, going-within, going-on, going-end}
 use Rattle.packing.proofs.AckBytes.{each-alike, total-alike, alike-all, alike-next, alike-none}

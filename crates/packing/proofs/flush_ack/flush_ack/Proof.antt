@@ -1,6 +1,4 @@
 -- `flush_ack` meets its contract: refused by either test, or written. Assumes nothing.
-use mathlib.Core.Path.{_≡_, refl, sym, ap, _∙_}
-use native.Mathlib.Omega.{arith}
 use Rattle.packing.specs.FlushAck.{writing}
 use Rattle.packing.proofs.FlushAcks.{found, no-bytes, no-lengths, fits}
 use borrow.Author.Needs.{needs}

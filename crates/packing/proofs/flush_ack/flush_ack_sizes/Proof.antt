@@ -1,5 +1,5 @@
 -- `flush_ack_sizes` meets its contract. Assumes nothing.
-use mathlib.Core.Path.{_≡_, refl, sym, ap, _∙_}
+use mathlib.Core.Path.{ap, _∙_}
 use native.Mathlib.Omega.{arith}
 use lib.ListN.{replicate}
 use Rattle.packing.specs.declared.packer.Packer.{Packer}

@@ -1,9 +1,7 @@
 -- `flush_ack_write` meets its contract: all acks join what waits, or the first of them follow it out. Assumes nothing.
-use Prim.Native.Nat.{_-_, _/_}
-use mathlib.Core.Path.{_≡_, refl, sym, ap, _∙_}
+use mathlib.Core.Path.{refl, ap, _∙_}
 use native.Mathlib.Omega.{arith}
-use lib.ListN.{length, replicate}
-use Rattle.flushing.specs.Pack.{packSizes}
+use lib.ListN.{length}
 use Rattle.packing.specs.declared.packer.Packer.{Packer}
 use Rattle.packing.proofs.FlushAcks.{found, waits, sends}
 use borrow.Author.Needs.{needs}

@@ -1,5 +1,5 @@
 -- `probe_head` meets its contract: no ack, or the last one. Assumes nothing.
-use mathlib.Core.Path.{_≡_, refl, sym, ap, _∙_}
+use mathlib.Core.Path.{_∙_}
 use Rattle.packing.proofs.AckBytes.{probe-none, probe-some}
 use borrow.Author.Needs.{needs}
 use Rattle.packing.proofs.probes.probe_head.Statement.{statement}

@@ -1,6 +1,6 @@
 -- `probe_put` meets its contract: a copy and a cut, or nothing. Assumes nothing.
 use Prim.Native.Nat.{_+_}
-use mathlib.Core.Path.{_≡_, refl, sym, ap, _∙_}
+use mathlib.Core.Path.{_≡_}
 use native.Mathlib.Omega.{arith}
 use lib.ListN.{length}
 use Rattle.ring.proofs.Rows.{by-copy}

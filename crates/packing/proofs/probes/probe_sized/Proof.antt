@@ -1,5 +1,5 @@
 -- `probe_sized` meets its contract. Assumes nothing.
-use mathlib.Core.Path.{_≡_, refl, sym, ap, _∙_}
+use mathlib.Core.Path.{sym}
 use Rattle.serial.specs.Branch.{pick}
 use Rattle.packing.proofs.Turns.{sized-none}
 use borrow.Author.Needs.{needs}

@@ -1,7 +1,5 @@
 -- `put_header` meets its contract: the copy of an array to a part. Assumes nothing.
-use mathlib.Core.Path.{_≡_, refl, sym, ap, _∙_}
 use native.Mathlib.Omega.{arith}
-use lib.ListN.{length}
 use Rattle.ring.proofs.Rows.{by-copy}
 use borrow.Author.Needs.{needs}
 use Rattle.packing.proofs.puts.put_header.Statement.{statement}

@@ -1,10 +1,9 @@
 -- `put_waiting` meets its contract: two copies, by way of an array, are one. Assumes nothing.
 use Prim.Native.Nat.{_-_}
-use mathlib.Core.Path.{_≡_, ap, _∙_}
+use mathlib.Core.Path.{_≡_, _∙_}
 use native.Mathlib.Omega.{arith}
-use lib.ListN.{length, take}
+use lib.ListN.{take}
 use lib.Seq.{length-take-le}
-use Rattle.ring.specs.Records.{put}
 use Rattle.packing.proofs.Laying.{way-start}
 use borrow.Author.Needs.{needs}
 use Rattle.packing.proofs.puts.put_waiting.Statement.{statement}

@@ -5,7 +5,7 @@ use native.Mathlib.Omega.{arith}
 use lib.ListN.{length, length-set}
 use Rattle.ring.proofs.Rows.{put-one}
 use Rattle.packing.proofs.Laying.{put-none}
-use Rattle.packing.proofs.Turns.{leaves, joins}
+use Rattle.packing.proofs.Turns.{turn-leaves, turn-joins}
 use borrow.Author.Needs.{needs}
 use Rattle.packing.proofs.packer.Packer.cut.Statement.{statement}
 use Rattle.packing.proofs.packer.Packer.cut.Tie as tie
@@ -22,7 +22,7 @@ mul-lengths c = search needs
 slice-write-lengths : tie.Need-slice-write-lengths
 slice-write-lengths c =
     let args = c .before .before .before .args in
-    omega (arith, ap length (leaves (args .mtu) (args .self) (args .n) _ (c .before .departs .ensures) (c .if1 .taken) .1))
+    omega (arith, ap length (turn-leaves (args .mtu) (args .self) (args .n) _ (c .before .departs .ensures) (c .if1 .taken) .1))
 
 size-requires : tie.Need-size-requires
 size-requires c κs = search needs
@@ -38,8 +38,8 @@ returns c =
     let d = c .before .before .departs .ensures in (
       c .size .ensures,
       ⊎-elim
-          (λ w. let e = leaves (args .mtu) (args .self) (args .n) _ d (w .0 .taken) .1 in w .1 ∙ rw e (put-one _ _ _ (omega (arith, ap length e))))
-          (λ w. w .1 ∙ rw (joins (args .mtu) (args .self) (args .n) _ d (w .0 .left) .1) (sym (put-none _ _)))
+          (λ w. let e = turn-leaves (args .mtu) (args .self) (args .n) _ d (w .0 .taken) .1 in w .1 ∙ rw e (put-one _ _ _ (omega (arith, ap length e))))
+          (λ w. w .1 ∙ rw (turn-joins (args .mtu) (args .self) (args .n) _ d (w .0 .left) .1) (sym (put-none _ _)))
           (c .before .if1 .came),
     )
 
