@@ -52,7 +52,7 @@ bytes-length told pace m z q h f =
     length-append (headerBytes (pushHead told (flownBy pace (recordIn m q) .after) (markIn m q - 1))) (partSlot 1476 (m .room) q 0 (markIn m q - 1))
     ∙ rw (header-size (pushHead told (flownBy pace (recordIn m q) .after) (markIn m q - 1)), e)
 
-pieces-most : (told : Told) (pace : Pace) (qs : List ℕ) (m : Store) → Sized 8 m → Each (λ (q : ℕ). q < length (m .marks)) qs → Each (λ (q : ℕ). markIn m q ≤ 1477) qs
+pub pieces-most : (told : Told) (pace : Pace) (qs : List ℕ) (m : Store) → Sized 8 m → Each (λ (q : ℕ). q < length (m .marks)) qs → Each (λ (q : ℕ). markIn m q ≤ 1477) qs
     → AtMost 1500 (map length (piecesOver told pace qs m))
 unfolding piecesOver pieceAt pick
 pieces-most told pace [] m z b f = tt

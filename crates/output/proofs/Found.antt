@@ -27,7 +27,7 @@ module _ (b : Kcp) (m : Store) (acks waiting : List ℕ) (o : Sound 8 (b .sender
   abbrev asked : Outgoing
   asked = outgoing b m acks waiting
 
-  few : planOf b .leavers ≤ b .sender .ring .unsent
+  pub few : planOf b .leavers ≤ b .sender .ring .unsent
   few = leaving-few (b .sender) m o (b .settings .conv) (b .clock .current) (b .estimator .rto) (planOf b .window) (planOf b .leavers) refl
 
   pub moved-sound : Sound 8 (movedAt b m .sender .ring) (movedAt b m .store)

@@ -1,3 +1,4 @@
 mod FrontStub
 mod AckFlush
 mod Found
+mod Rears

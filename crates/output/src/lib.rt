@@ -5,14 +5,18 @@ ghost use Prim.Native.Nat.{_*_, _≤_};
 ghost use lib.ListN.{length};
 ghost use Rattle.block.specs.declared.refusal.Answer.the-variants.{Refused as Unsent};
 ghost use Rattle.block.specs.declared.refusal.Refusal.the-variants.{OutTooSmall};
+ghost use Rattle.ring.specs.Lists.{lists};
+ghost use Rattle.snd_ring.specs.Store.{storeOf, Sound};
 ghost use Rattle.packing.specs.FlushAck.{writing};
-ghost use Rattle.output.specs.Memory.{toldOf, planOf, flushAckAt};
+ghost use Rattle.output.specs.Memory.{toldOf, planOf, flushAckAt, rearAt, RearFits};
 use block::Kcp;
 use block::acklist::AckList;
 use block::probe::Probe;
 use block::refusal::Answer;
 use block::refusal::Refusal;
+use block::sender::Sender;
 use flushing::due::Pace;
+use flushing::due::Tally;
 use flushing::due::pace_of;
 use flushing::headers::Told;
 use flushing::probing::probe_wnd_size;
@@ -20,6 +24,7 @@ use flushing::windows::leaving;
 use flushing::windows::window_of;
 use flushing::windows::wnd_unused;
 use packing::flush_ack::Packed;
+use packing::packer::Packer;
 
 // What every header of a flush tells: the conv, what is left of the receive window, and the next number awaited.
 fn told(block: Kcp) -> Told
@@ -123,5 +128,67 @@ pub fn flush_ack(
         block: block.with_acklist(rest),
         answer: Answer::Done,
         datagrams: datagrams,
+    }
+}
+
+// What the segments of a flush leave beside the lent memory: the sending side once they have left the queue, and what was counted.
+pub struct Flown {
+    pub sender: Sender,
+    pub tally: Tally,
+}
+
+// Segments leave the queue, those in flight that go out are written behind the front of the flush, and what waits then goes out.
+fn rear_put(
+    block: Kcp,
+    plan: Plan,
+    records: &mut [u32],
+    room: &[u8],
+    out: &mut [u8],
+    lengths: &mut [u16],
+    front: Packer,
+) -> Flown
+    requires { ⌜ plan ≡ planOf block ⌝ }
+    requires { ⌜ block .settings .mtu ≤ 1500 ⌝ }
+    requires { ⌜ Sound 8 (block .sender .ring) (storeOf 8 (lists (now records) (now room))) ⌝ }
+    requires { ⌜ RearFits block (storeOf 8 (lists (now records) (now room))) (now out) (now lengths) front ⌝ }
+    ensures { λ r. ⌜ record { sender = r .sender; tally = r .tally; store = storeOf 8 (lists (now (records .exit)) (now (room .entry))); out = now (out .exit); lengths = now (lengths .exit) }
+        ≡ rearAt block (storeOf 8 (lists (now (records .entry)) (now (room .entry)))) (now (out .entry)) (now (lengths .entry)) front ⌝ }
+{
+    let settings = block.settings;
+    let clock = block.clock;
+    let estimator = block.estimator;
+    let before = block.sender;
+    let sender = flight::launch(
+        before,
+        records,
+        plan.leavers,
+        settings.conv,
+        clock.current,
+        estimator.rto,
+    );
+    let none = Tally {
+        xmit: before.xmit,
+        dead: before.dead,
+        lost: false,
+        change: false,
+    };
+    let written = due::due_write(
+        sender.ring,
+        records,
+        room,
+        plan.pace,
+        plan.told,
+        settings.dead_link,
+        settings.mtu as usize,
+        out,
+        lengths,
+        front,
+        none,
+    );
+    let packer = written.packer;
+    packer.finish(lengths);
+    Flown {
+        sender: sender,
+        tally: written.tally,
     }
 }
