@@ -186,9 +186,7 @@ fn rear_put(
         none,
     );
     let packer = written.packer;
+    let tally = written.tally;
     packer.finish(lengths);
-    Flown {
-        sender: sender,
-        tally: written.tally,
-    }
+    Flown { sender, tally }
 }
