@@ -273,12 +273,26 @@ pub record Packing (mtu : ℕ) (p : Packer) (out l : List ℕ) (ps : List (List 
   pub cutting : Cutting mtu p l (map length ps) r m
   pub bytes : Laying out (p .start + p .used) (flat ps) o
 
+pub packing-start : (mtu : ℕ) (p : Packer) (out l : List ℕ) (ps : List (List ℕ)) → p .used ≤ 1500 → AtMost 1500 (map length ps)
+    → p .start + p .used + length (flat ps) ≤ length out → p .count + length (packSizes mtu (p .used) (map length ps) .0) ≤ length l
+    → Packing mtu p out l ps (sized mtu p (map length ps)) (put out (p .start + p .used) (flat ps)) (put l (p .count) (packSizes mtu (p .used) (map length ps) .0))
+packing-start mtu p out l ps h a b f =
+    record { cutting = cutting-start mtu p l (map length ps) h a f; bytes = laying-start out (p .start + p .used) (flat ps) b }
+
 module _ {mtu : ℕ} {p : Packer} {out l : List ℕ} {r : Packer} {o m : List ℕ} where
   -- what the next piece asks of the lists
   pub packing-fits : {x : List ℕ} {ps : List (List ℕ)} → Packing mtu p out l (x ∷ ps) r o m
       → (p .start + p .used + length x ≤ length out) × (p .count + length (goesSize mtu (p .used) (length x)) ≤ length l)
   unfolding flat
   packing-fits {x} {ps} g = (laying-fits x (flat ps) (g .bytes), cutting-fits (g .cutting))
+
+  -- what the pieces ps ask of them
+  pub packing-part : (ps qs : List (List ℕ)) → Packing mtu p out l (ps ++ qs) r o m
+      → (p .start + p .used + length (flat ps) ≤ length out) × (p .count + length (packSizes mtu (p .used) (map length ps) .0) ≤ length l)
+  packing-part ps qs g =
+      let ks = packSizes mtu (p .used) (map length ps) in
+      let c = rw (map-append length ps qs, cuts-append mtu (p .used) (map length ps) (map length qs)) at (g .cutting .cuts) in
+      (laying-fits (flat ps) (flat qs) (rw (flat-append ps qs) at (g .bytes)), laying-fits (ks .0) (packSizes mtu (ks .1) (map length qs) .0) c)
 
   pub packing-stage : (ps qs : List (List ℕ)) (q : Packer) (b n : List ℕ) → Packing mtu p out l (ps ++ qs) r o m → mtu ≤ 1500 → q ≡ sized mtu p (map length ps)
       → b ≡ put out (p .start + p .used) (flat ps) → n ≡ put l (p .count) (packSizes mtu (p .used) (map length ps) .0) → Packing mtu q b n qs r o m

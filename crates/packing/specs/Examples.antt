@@ -1,4 +1,4 @@
--- flush_ack in lent memory on closed cases. Assumes nothing.
+-- flush_ack in lent memory and the front of a flush on closed cases. Assumes nothing.
 use Prim.Native.Nat.{ℕ, _-_}
 use mathlib.Core.Path.{_≡_, refl}
 use mathlib.Core.List.{List, [], _∷_, _++_}
@@ -8,11 +8,12 @@ use Rattle.ring.specs.Records.{put}
 use Rattle.wire.specs.Header.{headerBytes}
 use Rattle.flushing.specs.declared.headers.Told.{Told}
 use Rattle.flushing.specs.Pack.{flat, sumOf, datagramOf, goes, stays, pack}
-use Rattle.flushing.specs.Pieces.{bareHead}
+use Rattle.flushing.specs.Pieces.{bareHead, lastAckOf}
 use Rattle.flushing.specs.Rules.{exceeds}
 use Rattle.packing.specs.declared.«flush_ack».Packed.the-variants.{Sent, OutTooSmall}
 use Rattle.packing.specs.Acks.{acksFrom}
 use Rattle.packing.specs.FlushAck.{writing, flushAckAt}
+use Rattle.packing.specs.Front.{frontPieces, frontSizes}
 
 told : Told
 told = record { conv = 7; wnd = 128; una = 12 }
@@ -54,3 +55,10 @@ refuses : (flushAckAt told 50 acks 2 24 (writing (waits 24) (replicate 47 5) (6 
     × (flushAckAt told 50 acks 2 24 (writing (waits 24) (replicate 48 5) []) ≡ (OutTooSmall, writing (waits 24) (replicate 48 5) []))
 unfolding told acks waits flushAckAt acksFrom headerBytes exceeds pack goes stays datagramOf flat sumOf pick put
 refuses = (refl, refl)
+
+-- the front: both probes carry the last of the two acks; without acks a tell carries 0
+fronts : (frontPieces told 3 (acksFrom acks 0 2) ≡ first ∷ second ∷ headerBytes (bareHead told 83 11 51) ∷ headerBytes (bareHead told 84 11 51) ∷ [])
+    × (frontPieces told 2 [] ≡ headerBytes (bareHead told 84 0 0) ∷ [])
+    × (frontSizes 2 3 ≡ 24 ∷ 24 ∷ 24 ∷ 24 ∷ [])
+unfolding told acks first second frontPieces frontSizes acksFrom headerBytes lastAckOf pick
+fronts = (refl, refl, refl)
