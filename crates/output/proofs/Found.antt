@@ -17,7 +17,7 @@ use Rattle.flushing.proofs.Packing.{all-sizes}
 use Rattle.flushing.proofs.Calls.{flush-joined}
 use Rattle.packing.specs.Acks.{acksFrom, acksOf}
 use Rattle.packing.specs.Front.{frontPieces, frontSizes}
-use Rattle.output.proofs.FrontStub.{front-sizes, front-rule}
+use Rattle.packing.proofs.Fronts.{front-sizes, front-rule}
 use Rattle.flight.specs.Memory.{launchedSender, launchedAt, flightPlaces, waitingPlaces, piecesOver, sizesOver, freshSizes, tallyOver}
 use Rattle.flight.proofs.Seen.{seen-moved, seen-flown, leaving-few, launched-sound}
 use Rattle.flight.proofs.Out.{pieces-seen, sizes-seen, tally-seen, sizes-launched}

@@ -1,4 +1,3 @@
-mod FrontStub
 mod AckFlush
 mod Found
 mod Rears

@@ -62,23 +62,27 @@ module _ (b : Kcp) (a room : List ℕ) (o : Sound 8 (b .sender .ring) (storeOf 8
 
       -- ---- x is what the write pass left
 
-      module _ (small : b .settings .mtu ≤ 1500) {x : Pass} (w : x ≡ passOver (toldOf b) (planOf b .pace) (b .settings .«dead_link») (b .settings .mtu) (flightPlaces (s .ring) n) (pass n out lengths p uncounted)) where
-        whole : x ≡ passOver (toldOf b) (planOf b .pace) (b .settings .«dead_link») (b .settings .mtu) (flightPlaces (movedAt b m .sender .ring) (movedAt b m .store)) (pass (movedAt b m .store) out lengths p uncounted)
+      module _ (small : b .settings .mtu ≤ 1500) {st : Store} {to ls : List ℕ} {pk : Packer} {t : Tally} (w : pass st to ls pk t ≡ passOver (toldOf b) (planOf b .pace) (b .settings .«dead_link») (b .settings .mtu) (flightPlaces (s .ring) n) (pass n out lengths p uncounted)) where
+        whole : pass st to ls pk t ≡ passOver (toldOf b) (planOf b .pace) (b .settings .«dead_link») (b .settings .mtu) (flightPlaces (movedAt b m .sender .ring) (movedAt b m .store)) (pass (movedAt b m .store) out lengths p uncounted)
         whole = w ∙ ap (λ (y : Side). passOver (toldOf b) (planOf b .pace) (b .settings .«dead_link») (b .settings .mtu) (flightPlaces (y .sender .ring) (y .store)) (pass (y .store) out lengths p uncounted)) e
 
-        left : x ≡ pass (flownStore b m) (put out (p .start + p .used) (flat (segmentsOf b m))) (put lengths (p .count) (packSizes (b .settings .mtu) (p .used) (map length (segmentsOf b m)) .0))
+        left : pass st to ls pk t ≡ pass (flownStore b m) (put out (p .start + p .used) (flat (segmentsOf b m))) (put lengths (p .count) (packSizes (b .settings .mtu) (p .used) (map length (segmentsOf b m)) .0))
             (sized (b .settings .mtu) p (map length (segmentsOf b m))) (tallyAt b m)
         unfolding passOver
         left = whole
 
-        pub rear-left : {d : List ℕ} → d ≡ put (x .lengths) (x .packer .count) (datagramSize (x .packer .used))
-            → record { sender = s; tally = x .tally; store = x .store; out = x .out; lengths = d } ≡ rearAt b m out lengths p
+        pub rear-left : {d : List ℕ} → d ≡ put ls (pk .count) (datagramSize (pk .used))
+            → record { sender = s; tally = t; store = st; out = to; lengths = d } ≡ rearAt b m out lengths p
         rear-left c =
-            rw (c, left, ap (λ (y : Side). y .sender) e)
+            (rw (c, ap (λ (y : Side). y .sender) e)
             (ap
+            (λ (x : Pass).
+            record { sender = movedAt b m .sender; tally = x .tally; store = x .store; out = x .out; lengths = put (x .lengths) (x .packer .count) (datagramSize (x .packer .used)) })
+            left
+            ∙ ap
             (λ (d : List ℕ).
             record { sender = movedAt b m .sender; tally = tallyAt b m; store = flownStore b m; out = put out (p .start + p .used) (flat (segmentsOf b m)); lengths = d })
-            (put-all (b .settings .mtu) p lengths (map length (segmentsOf b m)) cuts-fit))
+            (put-all (b .settings .mtu) p lengths (map length (segmentsOf b m)) cuts-fit)))
 
         each : AtMost 1500 (map length (segmentsOf b m))
         each =
@@ -87,14 +91,14 @@ module _ (b : Kcp) (a room : List ℕ) (o : Sound 8 (b .sender .ring) (storeOf 8
             pieces-most (toldOf b) (planOf b .pace) (flightPlaces (s .sender .ring) (s .store)) (s .store) (q .shaped .sized) (flight-below (s .sender) (s .store) q) (flight-fit (s .sender) (s .store) q)
 
         -- what waits then goes out
-        pub finish-asks : (x .packer .start + x .packer .used < 2 ^ 32) × (x .packer .used < 2 ^ 16) × (x .packer .count + length (datagramSize (x .packer .used)) ≤ length (x .lengths))
+        pub finish-asks : (pk .start + pk .used < 2 ^ 32) × (pk .used < 2 ^ 16) × (pk .count + length (datagramSize (pk .used)) ≤ length ls)
         unfolding packAllSizes
         finish-asks =
             let ks = map length (segmentsOf b m) in
             let cut = packSizes (b .settings .mtu) (p .used) ks in
             let h = f .few in
             let c = f .cuts in
-            rw left
+            rw (ap (λ (x : Pass). x .packer) left, ap (λ (x : Pass). x .lengths) left)
             (let sum = sized-sum (b .settings .mtu) p ks in
             let u = sized-used (b .settings .mtu) p ks in
             let v = sized-count (b .settings .mtu) p ks in

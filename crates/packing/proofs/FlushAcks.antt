@@ -11,7 +11,6 @@ use lib.Dec.{ltb}
 use borrow.Author.Tests.{lt-ltb, le-ltb}
 use Rattle.serial.specs.Branch.{pick}
 use Rattle.ring.specs.Records.{put}
-use Rattle.ring.proofs.Rows.{put-put}
 use Rattle.flushing.specs.declared.headers.Told.{Told}
 use Rattle.flushing.specs.Pack.{flat, sumOf, datagramSize, goesSize, staysSize, pack, packSizes}
 use Rattle.flushing.specs.Rules.{Outgoing, toldBy, flushedAck, exceeds}
@@ -21,7 +20,7 @@ use Rattle.packing.specs.declared.«flush_ack».Packed.the-variants.{Sen
 use Rattle.packing.specs.Packer.{holding, sized}
 use Rattle.packing.specs.Acks.{acksFrom, acksOf, ackBytes}
 use Rattle.packing.specs.FlushAck.{Writing, writing, roomOf, putOut, flushAckAt}
-use Rattle.packing.proofs.Laying.{put-none, put-own, put-start}
+use Rattle.packing.proofs.Laying.{put-none, put-own, put-start, put-next}
 use Rattle.packing.proofs.Turns.{sized-sum}
 use Rattle.packing.proofs.AckBytes.{each-alike, total-alike, ack-sizes, acks-length, acks-split}
 
@@ -66,10 +65,6 @@ same-cut a b c d h e = (
   sym (take-at a b (length c) h) ∙ ap (take (length c)) e ∙ take-at c d (length c) refl,
   sym (drop-at a b (length c) h) ∙ ap (drop (length c)) e ∙ drop-at c d (length c) refl,
 )
-
--- x behind w, which was put at the start
-put-next : (l w x : List ℕ) (n : ℕ) → length w ≡ n → n ≤ length l → put (put l 0 w) n x ≡ put l 0 (w ++ x)
-put-next l w x n e h = let d : 0 + length w ≡ n = omega arith in rw d at (put-put l 0 w x (omega arith))
 
 -- ---- what the sizes say
 

@@ -23,6 +23,10 @@ pub put-start : (l x : List ℕ) → put l 0 x ≡ x ++ drop (length x) l
 unfolding put
 put-start l x = rw zero-add
 
+-- x behind w, which was put at the start
+pub put-next : (l w x : List ℕ) (n : ℕ) → length w ≡ n → n ≤ length l → put (put l 0 w) n x ≡ put l 0 (w ++ x)
+put-next l w x n e h = let d : 0 + length w ≡ n = omega arith in rw d at (put-put l 0 w x (omega arith))
+
 -- what a copy of x to the start of l leaves
 pub copy-start : (l x y : List ℕ) → y ≡ take (length x) x ++ drop (length x) l → y ≡ put l 0 x
 copy-start l x y e = rw take-length at e ∙ sym (put-start l x)

@@ -1,4 +1,4 @@
--- flush_ack in lent memory, and a probe, on closed cases. Assumes nothing.
+-- flush_ack in lent memory, a probe, and the front of a flush on closed cases. Assumes nothing.
 use Prim.Native.Nat.{ℕ, _-_}
 use mathlib.Core.Path.{_≡_, refl}
 use mathlib.Core.List.{List, [], _∷_, _++_}
@@ -13,6 +13,7 @@ use Rattle.flushing.specs.Rules.{exceeds}
 use Rattle.packing.specs.declared.«flush_ack».Packed.the-variants.{Sent, OutTooSmall}
 use Rattle.packing.specs.Acks.{acksFrom, acksOf, probeHead}
 use Rattle.packing.specs.FlushAck.{writing, flushAckAt}
+use Rattle.packing.specs.Front.{frontPieces, frontSizes}
 
 told : Told
 told = record { conv = 7; wnd = 128; una = 12 }
@@ -59,3 +60,10 @@ refuses = (refl, refl)
 probes : (probeHead told 83 (acksOf acks 2) ≡ headerBytes (bareHead told 83 11 51)) × (probeHead told 84 (acksOf acks 0) ≡ headerBytes (bareHead told 84 0 0))
 unfolding told acks acksFrom lastAckOf
 probes = (refl, refl)
+
+-- the front: both probes carry the last of the two acks; without acks a tell carries 0
+fronts : (frontPieces told 3 (acksFrom acks 0 2) ≡ first ∷ second ∷ headerBytes (bareHead told 83 11 51) ∷ headerBytes (bareHead told 84 11 51) ∷ [])
+    × (frontPieces told 2 [] ≡ headerBytes (bareHead told 84 0 0) ∷ [])
+    × (frontSizes 2 3 ≡ 24 ∷ 24 ∷ 24 ∷ 24 ∷ [])
+unfolding told acks first second frontPieces frontSizes acksFrom headerBytes lastAckOf pick
+fronts = (refl, refl, refl)

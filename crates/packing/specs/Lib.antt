@@ -1,5 +1,6 @@
 pub mod Packer
 pub mod Acks
 pub mod FlushAck
+pub mod Front
 pub mod Examples
 pub mod Front
