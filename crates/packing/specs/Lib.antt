@@ -3,4 +3,3 @@ pub mod Acks
 pub mod FlushAck
 pub mod Front
 pub mod Examples
-pub mod Front

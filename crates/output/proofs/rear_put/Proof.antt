@@ -26,7 +26,8 @@ finish-requires c κs =
     let s = c .before .before .before .before .before .before .before .before .before .before .before .before .before .before .before .before .before .before .before .before .before .before .before .before .before .before in
     let a = s .args in
     let l = rw (s .pre .0) at (c .before .before .before .before .before .before .before .before .before .before .before .before .before .before .before .before .launch .ensures (a .room .now)) in
-    finish-asks (a .block) (a .records .now) (a .room .now) (s .pre .1 .1 .0) l (s .pre .1 .1 .1) (s .pre .1 .0) (rw (s .pre .0) at (c .before .before .before .before .before .before .before .before .before .due-write .ensures))
+    let f = finish-asks (a .block) (a .records .now) (a .room .now) (s .pre .1 .1 .0) l (s .pre .1 .1 .1) (s .pre .1 .0) (rw (s .pre .0) at (c .before .before .before .before .before .before .before .before .before .due-write .ensures)) in
+    (f .0, (f .1, f .2))
 
 same-length : tie.Need-same-length
 same-length c = search needs
