@@ -90,13 +90,7 @@ fn size_run(
 }
 
 // The segments in flight that go out, by their sizes; nothing changes.
-pub fn due_sizes(
-    ring: SndRing,
-    records: &[u32],
-    pace: Pace,
-    mtu: usize,
-    packer: Packer,
-) -> Packer
+pub fn due_sizes(ring: SndRing, records: &[u32], pace: Pace, mtu: usize, packer: Packer) -> Packer
     requires { ⌜ Rung ring (now records) ⌝ }
     requires { ⌜ packer .start + packer .used < 2 ^ 30 ⌝ }
     requires { ⌜ packer .count < 2 ^ 30 ⌝ }
@@ -130,13 +124,7 @@ fn fresh_run(records: &[u32], from: usize, to: usize, mtu: usize, packer: Packer
 }
 
 // The first k that wait, which are about to leave the queue, by their sizes; nothing changes.
-pub fn fresh_sizes(
-    ring: SndRing,
-    records: &[u32],
-    k: u32,
-    mtu: usize,
-    packer: Packer,
-) -> Packer
+pub fn fresh_sizes(ring: SndRing, records: &[u32], k: u32, mtu: usize, packer: Packer) -> Packer
     requires { ⌜ Rung ring (now records) ⌝ }
     requires { ⌜ k ≤ ring .unsent ⌝ }
     requires { ⌜ packer .start + packer .used < 2 ^ 30 ⌝ }
@@ -238,7 +226,18 @@ fn write_run(
     let mut q = from;
     while q < to {
         w = write_at(
-            records, room, slots, q, pace, told, dead_link, mtu, out, lengths, w.packer, w.tally,
+            records,
+            room,
+            slots,
+            q,
+            pace,
+            told,
+            dead_link,
+            mtu,
+            out,
+            lengths,
+            w.packer,
+            w.tally,
         );
         q += 1;
     }
@@ -268,11 +267,33 @@ pub fn due_write(
     let slots = snd_ring::slots_in(records.len());
     let runs = flight::runs_of(slots, ring.start as usize, 0, ring.reach as usize);
     let w = write_run(
-        records, room, slots, runs.from, runs.to, pace, told, dead_link, mtu, out, lengths, packer,
+        records,
+        room,
+        slots,
+        runs.from,
+        runs.to,
+        pace,
+        told,
+        dead_link,
+        mtu,
+        out,
+        lengths,
+        packer,
         tally,
     );
     write_run(
-        records, room, slots, 0, runs.rest, pace, told, dead_link, mtu, out, lengths, w.packer,
+        records,
+        room,
+        slots,
+        0,
+        runs.rest,
+        pace,
+        told,
+        dead_link,
+        mtu,
+        out,
+        lengths,
+        w.packer,
         w.tally,
     )
 }

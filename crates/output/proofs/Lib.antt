@@ -1,3 +1,4 @@
 mod AckFlush
 mod Found
+mod Sizes
 mod Rears

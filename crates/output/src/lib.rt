@@ -1,14 +1,17 @@
 // The way out in lent memory: flush_ack, flush, update and check. Each requires that the memory is well formed; the public calls test that and then act.
 ghost use mathlib.Core.Path.{_≡_};
+ghost use mathlib.Core.List.{List};
 ghost use Rattle.block.specs.WellFormed.{SettingsFit, ProbeFits, AckListFits};
-ghost use Prim.Native.Nat.{_*_, _≤_};
+ghost use Prim.Native.Nat.{ℕ, _*_, _≤_};
 ghost use lib.ListN.{length};
 ghost use Rattle.block.specs.declared.refusal.Answer.the-variants.{Refused as Unsent};
 ghost use Rattle.block.specs.declared.refusal.Refusal.the-variants.{OutTooSmall};
 ghost use Rattle.ring.specs.Lists.{lists};
 ghost use Rattle.snd_ring.specs.Store.{storeOf, Sound};
+ghost use Rattle.packing.specs.Packer.{holding, sized, closed};
 ghost use Rattle.packing.specs.FlushAck.{writing};
-ghost use Rattle.output.specs.Memory.{toldOf, planOf, flushAckAt, rearAt, RearFits};
+ghost use Rattle.due.specs.Pass.{Rung};
+ghost use Rattle.output.specs.Memory.{toldOf, planOf, flushAckAt, sizesAt, settledBy, rearAt, RearFits};
 use block::Kcp;
 use block::acklist::AckList;
 use block::probe::Probe;
@@ -20,10 +23,12 @@ use flushing::due::Tally;
 use flushing::due::pace_of;
 use flushing::headers::Told;
 use flushing::probing::probe_wnd_size;
+use flushing::windows::congestion_after;
 use flushing::windows::leaving;
 use flushing::windows::window_of;
 use flushing::windows::wnd_unused;
 use packing::flush_ack::Packed;
+use packing::front::front_sized;
 use packing::packer::Packer;
 
 // What every header of a flush tells: the conv, what is left of the receive window, and the next number awaited.
@@ -129,6 +134,73 @@ pub fn flush_ack(
         answer: Answer::Done,
         datagrams: datagrams,
     }
+}
+
+// What a flush comes to, by sizes alone: the bytes and the datagrams that go out. Nothing changes.
+fn flush_sizes(block: Kcp, plan: Plan, records: &[u32]) -> Packer
+    requires { ⌜ plan ≡ planOf block ⌝ }
+    requires { ⌜ SettingsFit (block .settings) ⌝ }
+    requires { ⌜ AckListFits (block .acklist) ⌝ }
+    requires { ⌜ Rung (block .sender .ring) (now records) ⌝ }
+    ensures { λ r. ⌜ ((room : List ℕ) → r ≡ closed (sized (block .settings .mtu) (holding (block .acklist .waiting)) (sizesAt block (storeOf 8 (lists (now (records .entry)) room))))) ⌝ }
+{
+    let settings = block.settings;
+    let acklist = block.acklist;
+    let sender = block.sender;
+    let ring = sender.ring;
+    let probe = plan.probe;
+    let mtu = settings.mtu as usize;
+    let front = front_sized(
+        acklist.waiting as usize,
+        mtu,
+        acklist.acks as usize,
+        probe.bits,
+    );
+    let flying = due::due_sizes(ring, records, plan.pace, mtu, front);
+    let all = due::fresh_sizes(ring, records, plan.leavers, mtu, flying);
+    all.close()
+}
+
+// The block after a flush: the windows by what was counted, the probe with its bits used up, no ack and no byte that waits, and the sending side.
+fn settled(block: Kcp, plan: Plan, sender: Sender, tally: Tally) -> Kcp
+    requires { ⌜ plan ≡ planOf block ⌝ }
+    ensures { λ r. ⌜ r ≡ settledBy block sender tally ⌝ }
+{
+    let settings = block.settings;
+    let pace = plan.pace;
+    let probe = plan.probe;
+    let ring = sender.ring;
+    let inflight = serial::sub(sender.snd_nxt, sender.snd_una);
+    let congestion = congestion_after(
+        block.congestion,
+        settings.mss,
+        inflight,
+        pace.resent,
+        plan.window,
+        tally.change,
+        tally.lost,
+    );
+    let used_up = Probe {
+        bits: 0,
+        ts_probe: probe.ts_probe,
+        probe_wait: probe.probe_wait,
+    };
+    let none = AckList {
+        acks: 0,
+        waiting: 0,
+    };
+    let after = Sender {
+        snd_una: sender.snd_una,
+        snd_nxt: sender.snd_nxt,
+        ring: ring,
+        xmit: tally.xmit,
+        dead: tally.dead,
+    };
+    block
+        .with_congestion(congestion)
+        .with_probe(used_up)
+        .with_acklist(none)
+        .with_sender(after)
 }
 
 // What the segments of a flush leave beside the lent memory: the sending side once they have left the queue, and what was counted.

@@ -50,7 +50,7 @@ returns c =
     let g = c .before .size-run .ensures .1 in
     let h = c .size-run2 .ensures .1 in (
       λ room. rw (runs-by (a .records .now) (c .before .before .before .before .before .slots-in .ensures) room (a .ring .start) 0 (a .ring .reach) (c .before .before .runs-of .ensures))
-    (sizes-both (a .mtu) (storeOf 8 (lists (a .records .now) room)) _ _ (a .packer) (a .pace) (c .before .size-run .ensures .0 room) (c .size-run2 .ensures .0 room)),
+          (sizes-both (a .mtu) (storeOf 8 (lists (a .records .now) room)) _ _ (a .packer) (a .pace) (c .before .size-run .ensures .0 room) (c .size-run2 .ensures .0 room)),
       (omega arith, omega arith),
     )
 

@@ -57,7 +57,7 @@ returns c =
     let g = c .before .fresh-run .ensures .1 in
     let h = c .fresh-run2 .ensures .1 in (
       λ room. rw (runs-by (a .records .now) (c .before .before .before .before .before .slots-in .ensures) room (a .ring .start) (a .ring .reach) (a .k) (c .before .before .runs-of .ensures))
-    (fresh-both (a .mtu) (storeOf 8 (lists (a .records .now) room)) (runOf (r .from) (r .to - r .from)) (runOf 0 (r .rest - 0)) (a .packer) (c .before .fresh-run .ensures .0 room) (c .fresh-run2 .ensures .0 room)),
+          (fresh-both (a .mtu) (storeOf 8 (lists (a .records .now) room)) (runOf (r .from) (r .to - r .from)) (runOf 0 (r .rest - 0)) (a .packer) (c .before .fresh-run .ensures .0 room) (c .fresh-run2 .ensures .0 room)),
       (omega arith, omega arith),
     )
 
