@@ -2,3 +2,5 @@ mod AckFlush
 mod Found
 mod Sizes
 mod Rears
+mod Whole
+mod Flushes

@@ -1,5 +1,5 @@
 -- The sizes of a flush, stage by stage, and that 13 is decided by them. Assumes nothing.
-use Prim.Native.Nat.{ℕ, _/_, _≤_}
+use Prim.Native.Nat.{ℕ, _+_, _/_, _≤_}
 use native.Mathlib.Omega.{arith}
 use mathlib.Core.Path.{_≡_, refl, ap, _∙_}
 use mathlib.Core.List.{List, [], _++_}
@@ -36,3 +36,8 @@ pub sizes-staged : (b : Kcp) (a : List ℕ) {f g h r : Packer} (room : List ℕ)
     → r ≡ closed h → r ≡ closed (sized (b .settings .mtu) (holding (b .acklist .waiting)) (sizesAt b (storeOf 8 (lists a room))))
 unfolding sizesAt
 sizes-staged b a {f} {g} {h} room x y z e = e ∙ ap closed (staged (b .settings .mtu) (holding (b .acklist .waiting)) f g h _ _ _ x y z)
+
+-- all that was packed has gone out
+pub closed-sum : (p : Packer) {r : Packer} → r ≡ closed p → r .start ≡ p .start + p .used
+unfolding closed
+closed-sum p e = ap (λ (x : Packer). x .start) e

@@ -149,6 +149,21 @@ pub record RearFits (k : Kcp) (m : Store) (out lengths : List ℕ) (p : Packer) 
   pub few : p .start + p .used + length (flat (segmentsOf k m)) < 2 ^ 32
   pub cuts : p .count + length (packAllSizes (k .settings .mtu) (p .used) (map length (segmentsOf k m))) ≤ length lengths
 
+-- the same of all of it, from the bytes that wait on
+abbrev pub writtenAt : Kcp → Store → List ℕ → List ℕ → List ℕ → List ℕ → Rear
+writtenAt k m acks waiting out lengths = record {
+  sender = movedAt k m .sender;
+  tally = tallyAt k m;
+  store = flownStore k m;
+  out = put out 0 (take (k .acklist .waiting) waiting ++ flat (piecesAt k m acks));
+  lengths = put lengths 0 (packAllSizes (k .settings .mtu) (k .acklist .waiting) (map length (piecesAt k m acks)));
+}
+
+pub record FlushFits (k : Kcp) (m : Store) (acks out lengths : List ℕ) : Type 0 where
+  pub bytes : k .acklist .waiting + length (flat (piecesAt k m acks)) ≤ length out
+  pub few : k .acklist .waiting + length (flat (piecesAt k m acks)) < 2 ^ 32
+  pub cuts : length (packAllSizes (k .settings .mtu) (k .acklist .waiting) (map length (piecesAt k m acks))) ≤ length lengths
+
 -- the block with these numbers of a flush: the windows, the probe, whose bits are used up, and the sending side
 abbrev pub settledBy : Kcp → Sender → Tally → Kcp
 settledBy k s t =

@@ -1,8 +1,8 @@
 // The way out in lent memory: flush_ack, flush, update and check. Each requires that the memory is well formed; the public calls test that and then act.
 ghost use mathlib.Core.Path.{_≡_};
 ghost use mathlib.Core.List.{List};
-ghost use Rattle.block.specs.WellFormed.{SettingsFit, ProbeFits, AckListFits};
-ghost use Prim.Native.Nat.{ℕ, _*_, _≤_};
+ghost use Rattle.block.specs.WellFormed.{SettingsFit, ProbeFits, AckListFits, OwnNumbers};
+ghost use Prim.Native.Nat.{ℕ, _*_, _≤_, _<_, _^_};
 ghost use lib.ListN.{length};
 ghost use Rattle.block.specs.declared.refusal.Answer.the-variants.{Refused as Unsent};
 ghost use Rattle.block.specs.declared.refusal.Refusal.the-variants.{OutTooSmall};
@@ -11,7 +11,7 @@ ghost use Rattle.snd_ring.specs.Store.{storeOf, Sound};
 ghost use Rattle.packing.specs.Packer.{holding, sized, closed};
 ghost use Rattle.packing.specs.FlushAck.{writing};
 ghost use Rattle.due.specs.Pass.{Rung};
-ghost use Rattle.output.specs.Memory.{toldOf, planOf, flushAckAt, sizesAt, settledBy, rearAt, RearFits};
+ghost use Rattle.output.specs.Memory.{toldOf, planOf, flushAckAt, flushAt, sizesAt, settledBy, rearAt, RearFits, writtenAt, FlushFits};
 use block::Kcp;
 use block::acklist::AckList;
 use block::probe::Probe;
@@ -28,6 +28,7 @@ use flushing::windows::leaving;
 use flushing::windows::window_of;
 use flushing::windows::wnd_unused;
 use packing::flush_ack::Packed;
+use packing::front::front_put;
 use packing::front::front_sized;
 use packing::packer::Packer;
 
@@ -122,7 +123,11 @@ pub fn flush_ack(
         out,
         lengths,
     );
-    let Packed::Sent { datagrams, waiting: left } = packed else {
+    let Packed::Sent {
+        datagrams,
+        waiting: left,
+    } = packed
+    else {
         return too_small(block);
     };
     let rest = AckList {
@@ -143,6 +148,7 @@ fn flush_sizes(block: Kcp, plan: Plan, records: &[u32]) -> Packer
     requires { ⌜ AckListFits (block .acklist) ⌝ }
     requires { ⌜ Rung (block .sender .ring) (now records) ⌝ }
     ensures { λ r. ⌜ ((room : List ℕ) → r ≡ closed (sized (block .settings .mtu) (holding (block .acklist .waiting)) (sizesAt block (storeOf 8 (lists (now (records .entry)) room))))) ⌝ }
+    ensures { λ r. ⌜ r .start < 2 ^ 32 ⌝ }
 {
     let settings = block.settings;
     let acklist = block.acklist;
@@ -261,4 +267,80 @@ fn rear_put(
     let tally = written.tally;
     packer.finish(lengths);
     Flown { sender, tally }
+}
+
+// Writes a flush: the bytes that wait, the acks and the probes, and then the segments.
+fn flush_write(
+    block: Kcp,
+    plan: Plan,
+    records: &mut [u32],
+    room: &[u8],
+    acks: &[u32],
+    waiting: &[u8],
+    out: &mut [u8],
+    lengths: &mut [u16],
+) -> Flown
+    requires { ⌜ plan ≡ planOf block ⌝ }
+    requires { ⌜ SettingsFit (block .settings) ⌝ }
+    requires { ⌜ AckListFits (block .acklist) ⌝ }
+    requires { ⌜ 2 * block .acklist .acks ≤ length (now acks) ⌝ }
+    requires { ⌜ length (now waiting) ≡ 1500 ⌝ }
+    requires { ⌜ Sound 8 (block .sender .ring) (storeOf 8 (lists (now records) (now room))) ⌝ }
+    requires { ⌜ FlushFits block (storeOf 8 (lists (now records) (now room))) (now acks) (now out) (now lengths) ⌝ }
+    ensures { λ r. ⌜ record { sender = r .sender; tally = r .tally; store = storeOf 8 (lists (now (records .exit)) (now (room .entry))); out = now (out .exit); lengths = now (lengths .exit) }
+        ≡ writtenAt block (storeOf 8 (lists (now (records .entry)) (now (room .entry)))) (now (acks .entry)) (now (waiting .entry)) (now (out .entry)) (now (lengths .entry)) ⌝ }
+{
+    let settings = block.settings;
+    let acklist = block.acklist;
+    let probe = plan.probe;
+    let front = front_put(
+        plan.told,
+        probe.bits,
+        settings.mtu as usize,
+        acks,
+        acklist.acks as usize,
+        waiting,
+        acklist.waiting as usize,
+        out,
+        lengths,
+    );
+    rear_put(block, plan, records, room, out, lengths, front)
+}
+
+// Puts out what waits, the acks, the probes and the segments that are fresh or to be resent, of the block as it is now. Refused by 13, which leaves the
+// block of before and all memory.
+fn flush(
+    before: Kcp,
+    block: Kcp,
+    records: &mut [u32],
+    room: &[u8],
+    acks: &[u32],
+    waiting: &[u8],
+    out: &mut [u8],
+    lengths: &mut [u16],
+) -> Out
+    requires { ⌜ OwnNumbers block ⌝ }
+    requires { ⌜ 2 * block .acklist .acks ≤ length (now acks) ⌝ }
+    requires { ⌜ length (now waiting) ≡ 1500 ⌝ }
+    requires { ⌜ Sound 8 (block .sender .ring) (storeOf 8 (lists (now records) (now room))) ⌝ }
+    ensures { λ r. ⌜ record {
+      out = record { block = r .block; answer = r .answer; datagrams = r .datagrams; written = writing (now (waiting .entry)) (now (out .exit)) (now (lengths .exit)) };
+      store = storeOf 8 (lists (now (records .exit)) (now (room .entry)));
+    }
+        ≡ flushAt before block (storeOf 8 (lists (now (records .entry)) (now (room .entry)))) (now (acks .entry)) (writing (now (waiting .entry)) (now (out .entry)) (now (lengths .entry))) ⌝ }
+{
+    let plan = planned(block);
+    let sizes = flush_sizes(block, plan, records);
+    if out.len() < sizes.start {
+        return too_small(before);
+    }
+    if lengths.len() < sizes.count {
+        return too_small(before);
+    }
+    let flown = flush_write(block, plan, records, room, acks, waiting, out, lengths);
+    Out {
+        block: settled(block, plan, flown.sender, flown.tally),
+        answer: Answer::Done,
+        datagrams: sizes.count,
+    }
 }

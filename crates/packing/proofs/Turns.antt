@@ -104,6 +104,11 @@ module _ (mtu : ℕ) where
   rest-append n [] js = refl
   rest-append n (k ∷ ks) js = rest-append (staysSize mtu n k) ks js
 
+  -- the same where nothing is left to wait
+  pub all-append : (n : ℕ) (ks js : List ℕ) → packAllSizes mtu n (ks ++ js) ≡ packSizes mtu n ks .0 ++ packAllSizes mtu (packSizes mtu n ks .1) js
+  unfolding packAllSizes
+  all-append n ks js = rw (cuts-append n ks js, rest-append n ks js, append-assoc)
+
   -- one piece
   pub cuts-one : (n k : ℕ) → packSizes mtu n (k ∷ []) .0 ≡ goesSize mtu n k
   unfolding packSizes

@@ -52,7 +52,7 @@ cast-t22 c =
     let a = d .before .before .before .before .before .before .before .before .before .before .before .before .before .before .args in
     let p = d .before .before .before .before .before .before .before .before .before .before .before .before .before .before .pre in
     let h = ack-small (a .block) (a .acks .now) (writing (a .waiting .now) (a .out .now) (a .lengths .now)) (d .before .before .before .before .before .before .before .told .ensures) (d .flush-ack .ensures) (c .before .packed .given .1)
-        (p .0 .mtu .high) (p .1 .0 .waiting) (p .1 .1 .1) in
+    (p .0 .mtu .high) (p .1 .0 .waiting) (p .1 .1 .1) in
     omega arith
 
 with-acklist-requires : tie.Need-with-acklist-requires

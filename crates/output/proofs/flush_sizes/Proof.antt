@@ -1,6 +1,6 @@
 -- `output::flush_sizes` meets its contract: front, flight and those that leave the queue, one behind the other. Assumes nothing.
 use native.Mathlib.Omega.{arith}
-use Rattle.output.proofs.Sizes.{leavers-few, within, sizes-staged}
+use Rattle.output.proofs.Sizes.{leavers-few, within, sizes-staged, closed-sum}
 use borrow.Author.Needs.{needs}
 use Rattle.output.proofs.flush_sizes.Statement.{statement}
 use Rattle.output.proofs.flush_sizes.Tie as tie
@@ -45,7 +45,16 @@ returns : tie.Need-returns
 returns c =
     let s = c .before .before .before .before .before .before .before .before .before .before .before .before .before in
     let e = s .pre .0 in
-    λ room. sizes-staged (s .args .block) (s .args .records .now) room (rw e at (c .before .before .before .front-sized .ensures .0)) (rw e at (c .before .before .due-sizes .ensures .0 room)) (rw e at (c .before .fresh-sizes .ensures .0 room)) (c .close .ensures)
+    let rung = s .pre .1 .1 .1 in
+    let w = within (s .args .block) (s .args .records .now) rung in
+    let k = leavers-few (s .args .block) (s .args .records .now) rung in
+    let g = rw e at (c .before .fresh-sizes .ensures .1) in
+    let d = c .before .before .due-sizes .ensures .1 in
+    let f = c .before .before .before .front-sized .ensures .1 in
+    let z = closed-sum _ (c .close .ensures) in (
+      λ room. sizes-staged (s .args .block) (s .args .records .now) room (rw e at (c .before .before .before .front-sized .ensures .0)) (rw e at (c .before .before .due-sizes .ensures .0 room)) (rw e at (c .before .fresh-sizes .ensures .0 room)) (c .close .ensures),
+      omega arith,
+    )
 
 pub flush-sizes-spec : {M : Type 1} → statement M
 flush-sizes-spec =
