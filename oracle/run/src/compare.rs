@@ -89,10 +89,12 @@ fn profile(word: Option<String>) -> driver::generator::Profile {
 }
 
 fn sides(wanted: &Wanted) -> String {
-    if wanted.copy || exports::all().is_empty() {
+    if wanted.copy || !exports::HAS_BLOCK {
         return "a copy of the Rust".to_string();
     }
-    format!("the port for {}; a copy of the Rust for the rest", exports::all().join(", "))
+    let lacks: Vec<&str> = exports::FLUSHES.iter().copied().filter(|name| !exports::has(name)).collect();
+    let rest = if lacks.is_empty() { String::new() } else { format!("; a copy of the Rust for {}", lacks.join(", ")) };
+    format!("the port for {}{}", exports::all().join(", "), rest)
 }
 
 /// The calls of a script, each with its line.
@@ -109,9 +111,12 @@ fn read_script(path: &str) -> Vec<(usize, Call)> {
     calls
 }
 
-/// The other side; a script is short, and so watched in all.
-fn other(wanted: &Wanted, script: bool) -> Box<dyn Side> {
-    Box::new(Joined::new(Copy::default(), !wanted.copy, script))
+/// The other side.
+fn other(wanted: &Wanted) -> Box<dyn Side> {
+    if wanted.copy || !exports::HAS_BLOCK {
+        return Box::new(Copy::default());
+    }
+    Box::new(Joined::new(Copy::default()))
 }
 
 /// The finding as a script that `--replay` takes.
@@ -174,7 +179,7 @@ fn replayed(wanted: &Wanted, path: &str, script: &[(usize, Call)]) -> (u64, Opti
         Some(Call::Start { .. }) => {}
         _ => usage(&format!("{}: a script begins with 'new'", path)),
     }
-    match replay(&mut Judge::default(), &mut *other(wanted, true), &calls, &wanted.plan.calls) {
+    match replay(&mut Judge::default(), &mut *other(wanted), &calls, &wanted.plan.calls) {
         Replay::Same(count) => (count, None),
         Replay::Differs(count, finding) => (count, Some(finding)),
         Replay::Leaves(i, why) => usage(&format!("{}:{}: leaves the domain of equality: {}", path, script[i].0, why)),
@@ -201,7 +206,7 @@ fn search(wanted: &Wanted) -> (u64, Option<Finding>) {
             eprint!("\r{} of {} calls, {} s ", calls, count, seconds);
         }
     };
-    let report = run(&mut Judge::default(), &mut *other(wanted, false), &wanted.plan, &mut progress);
+    let report = run(&mut Judge::default(), &mut *other(wanted), &wanted.plan, &mut progress);
     if terminal && told > 0 {
         eprintln!();
     }
@@ -214,7 +219,7 @@ fn search(wanted: &Wanted) -> (u64, Option<Finding>) {
                 eprintln!("a difference after {} calls; looking for the shortest sequence that shows it", report.calls);
             }
             let calls = &wanted.plan.calls;
-            let mut shows = |script: &[Call]| match replay(&mut Judge::default(), &mut *other(wanted, true), script, calls) {
+            let mut shows = |script: &[Call]| match replay(&mut Judge::default(), &mut *other(wanted), script, calls) {
                 Replay::Differs(_, finding) => Some(finding),
                 _ => None,
             };
