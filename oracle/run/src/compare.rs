@@ -1,8 +1,9 @@
 //! oracle/compare: holds the judge and another side to the same calls. The script of that name has the usage.
 
 use driver::call::{parse, Call, LEAVES, NAMES};
+use driver::ends;
 use driver::generator::PROFILES;
-use driver::run::{reach, replay, run, Finding, Plan, Replay};
+use driver::run::{reach, replay, run, Finding, Plan, Replay, Report};
 use driver::shrink::shrink;
 use driver::side::Side;
 use driver::{rust_side, Judge};
@@ -29,6 +30,8 @@ struct Wanted {
     rows: bool,
     departures: bool,
     reach: bool,
+    /// Two blocks on a line in place of one.
+    pairs: bool,
     /// The other side is the copy of the Rust alone.
     copy: bool,
 }
@@ -42,6 +45,7 @@ fn arguments() -> Wanted {
         rows: false,
         departures: false,
         reach: false,
+        pairs: false,
         copy: false,
     };
     let mut words = Vec::new();
@@ -55,6 +59,7 @@ fn arguments() -> Wanted {
             "--rows" => wanted.rows = true,
             "--departures" => wanted.departures = true,
             "--reach" => wanted.reach = true,
+            "--pairs" => wanted.pairs = true,
             "--progress" => wanted.progress = true,
             w if w.starts_with('-') => usage(&format!("unknown option '{}'", w)),
             _ => words.push(word),
@@ -71,6 +76,9 @@ fn arguments() -> Wanted {
         if !NAMES.contains(&word.as_str()) && !LEAVES.contains(&word.as_str()) {
             usage(&format!("'{}' is no call", word));
         }
+    }
+    if wanted.pairs && (!words.is_empty() || wanted.plan.profile.is_some()) {
+        usage("--pairs takes SEED and COUNT alone, since pairs need every call");
     }
     wanted.plan.calls = words;
     wanted
@@ -152,7 +160,7 @@ fn main() {
     }
     let (calls, finding) = match &script {
         Some((path, script)) => replayed(&wanted, path, script),
-        None => search(&wanted),
+        None => search(&wanted, &mut text),
     };
     if let Some(finding) = &finding {
         if !wanted.brief {
@@ -194,7 +202,22 @@ fn table((bad, lines): (usize, Vec<String>)) -> ! {
     exit((bad > 0) as i32)
 }
 
-fn search(wanted: &Wanted) -> (u64, Option<Finding>) {
+/// Two blocks, each on both sides, joined by a line.
+fn pairs(wanted: &Wanted, progress: &mut dyn FnMut(u64), text: &mut String) -> Report {
+    let (mut judges, mut others) = ([Judge::default(), Judge::default()], [other(wanted), other(wanted)]);
+    let ([a, b], [c, d]) = (&mut judges, &mut others);
+    let (report, done) = ends::run(&mut [[a, &mut **c], [b, &mut **d]], &wanted.plan, progress);
+    if !wanted.brief {
+        text.push_str(&format!(
+            "# {} pairs: {} datagrams put out, {} lost, {} repeated, {} arrived; {} messages read\n",
+            done.pairs, done.put_out, done.lost, done.repeated, done.arrived, done.messages
+        ));
+    }
+    report
+}
+
+/// Runs the plan; what is found is made shorter.
+fn search(wanted: &Wanted, text: &mut String) -> (u64, Option<Finding>) {
     let began = Instant::now();
     let terminal = wanted.progress;
     let mut told = 0;
@@ -206,7 +229,11 @@ fn search(wanted: &Wanted) -> (u64, Option<Finding>) {
             eprint!("\r{} of {} calls, {} s ", calls, count, seconds);
         }
     };
-    let report = run(&mut Judge::default(), &mut *other(wanted), &wanted.plan, &mut progress);
+    let report = if wanted.pairs {
+        pairs(wanted, &mut progress, text)
+    } else {
+        run(&mut Judge::default(), &mut *other(wanted), &wanted.plan, &mut progress)
+    };
     if terminal && told > 0 {
         eprintln!();
     }
