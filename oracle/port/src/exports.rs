@@ -53,6 +53,11 @@ pub const HAS_TESTS: bool = cfg!(kcp_c_tests);
 pub const HAS_BLOCK: bool =
     cfg!(all(kcp_c, kcp_c_new, kcp_c_setters, kcp_c_receive, kcp_c_send, kcp_c_input));
 
+/// Whether it has each of these, for who calls them often.
+pub const HAS_FLUSH: bool = cfg!(kcp_c_flush);
+pub const HAS_UPDATE: bool = cfg!(kcp_c_update);
+pub const HAS_CHECK: bool = cfg!(kcp_c_check);
+
 /// Whether it has these too, so that no copy is needed.
 pub fn has_flushes() -> bool {
     FLUSHES.iter().all(|name| has(name))
