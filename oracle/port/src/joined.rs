@@ -2,8 +2,7 @@
 //!
 //! The state stands in the lent memory from the first call on, in the slots that the port itself chose. A second memory follows what
 //! each call may write there (`watch`). While the port lacks a call, a copy of the Rust makes every call beside it, so that it can make
-//! that one; its numbers are then laid into the memory, whose payloads no such call changes. Both are compared with the judge after
-//! every call, the one by its numbers and the other by its answers.
+//! that one; its numbers are then laid into the memory, whose payloads no such call changes.
 //!
 //! In half of the sequences the state is read out now and then and laid elsewhere, so that the port meets rings at their wrap, gaps and
 //! stale words that its own calls seldom lead to; and it is laid into the copy, which so loses the numbers that the memory does not keep.
@@ -65,11 +64,15 @@ impl<S: Side> Joined<S> {
         was.acks.clone_from(&m.acks);
     }
 
-    /// Lays the state that the memory holds at other places, in the shadow too.
-    fn lay_elsewhere(&mut self) {
+    /// Now and then lays the state that the memory holds at other places, in the shadow too; what was written astray before, in words,
+    /// since it would be lost.
+    fn lay_elsewhere(&mut self) -> Option<String> {
         self.memory.read_numbers(&mut self.s);
-        if Shape::seed(&self.s) % ELSEWHERE != 0 || self.memory.fault().is_some() {
-            return;
+        if Shape::seed(&self.s) % ELSEWHERE != 0 {
+            return None;
+        }
+        if let Some(stray) = self.shadow.look_over(&self.memory, false) {
+            return Some(stray);
         }
         self.memory.read(&mut self.s);
         self.lay_both();
@@ -77,6 +80,7 @@ impl<S: Side> Joined<S> {
         if let Some(copy) = &mut self.copy {
             copy.lay(&self.s, self.memory.sizes());
         }
+        None
     }
 
     fn lay_both(&mut self) {
@@ -97,9 +101,13 @@ impl<S: Side> Joined<S> {
             return;
         }
         copy.read_numbers(&mut self.s, Touched::ALL);
-        let launched = self.s.snd_buf.len() + self.s.snd_queue.len() == self.memory.snd_ring().segments();
-        if !launched || self.memory.fault().is_some() {
-            out.stray = Some("not what the copy of the Rust was led to".to_string());
+        if self.s.snd_buf.len() + self.s.snd_queue.len() != self.memory.snd_ring().segments() {
+            out.stray = Some("not the segments that the copy of the Rust has to send".to_string());
+            return;
+        }
+        // what was written astray before would be lost
+        out.stray = self.shadow.look_over(&self.memory, false);
+        if out.stray.is_some() {
             return;
         }
         self.memory.lay_numbers(&self.s);
@@ -158,7 +166,7 @@ impl<S: Side> Side for Joined<S> {
             }
         }
         if flushes(call) && !self.stay && out.stray.is_none() {
-            self.lay_elsewhere();
+            out.stray = self.lay_elsewhere();
         }
     }
 
