@@ -3,7 +3,7 @@
 /// The text above it is the published one.
 pub mod inside {
     use super::*;
-    use state::{Segment, State};
+    use state::{Segment, State, Touched};
 
     fn plain(s: &KcpSegment) -> Segment {
         Segment {
@@ -18,6 +18,7 @@ pub mod inside {
             rto: s.rto,
             fastack: s.fastack,
             xmit: s.xmit,
+            len: s.data.len(),
             data: Vec::new(),
         }
     }
@@ -39,15 +40,30 @@ pub mod inside {
         }
     }
 
-    fn read_all(from: &VecDeque<KcpSegment>, to: &mut Vec<Segment>) {
+    fn read_all(from: &VecDeque<KcpSegment>, to: &mut Vec<Segment>, touched: bool, whole: bool) {
+        if !touched && from.len() == to.len() {
+            return;
+        }
         to.resize_with(from.len(), Segment::default);
         for (s, t) in from.iter().zip(to) {
-            t.set(plain(s), &s.data);
+            t.set_numbers(plain(s));
+            if whole {
+                t.data.extend_from_slice(&s.data);
+            }
         }
     }
 
     /// The whole state, but for `largest`, which the Rust does not keep.
     pub fn read<O>(k: &Kcp<O>, s: &mut State) {
+        read_parts(k, s, Touched::ALL, true)
+    }
+
+    /// The same without the payloads, of which the lengths are told; and without the lists that the last call could not change.
+    pub fn read_numbers<O>(k: &Kcp<O>, s: &mut State, touched: Touched) {
+        read_parts(k, s, touched, false)
+    }
+
+    fn read_parts<O>(k: &Kcp<O>, s: &mut State, touched: Touched, whole: bool) {
         s.conv = k.conv;
         s.mtu = k.mtu;
         s.mss = k.mss;
@@ -80,18 +96,62 @@ pub mod inside {
         s.nocwnd = k.nocwnd;
         s.stream = k.stream;
         s.input_conv = k.input_conv;
-        read_all(&k.snd_queue, &mut s.snd_queue);
-        read_all(&k.rcv_queue, &mut s.rcv_queue);
-        read_all(&k.snd_buf, &mut s.snd_buf);
-        read_all(&k.rcv_buf, &mut s.rcv_buf);
+        read_all(&k.snd_queue, &mut s.snd_queue, touched.to_send, whole);
+        read_all(&k.rcv_queue, &mut s.rcv_queue, touched.received, whole);
+        read_all(&k.snd_buf, &mut s.snd_buf, touched.to_send, whole);
+        read_all(&k.rcv_buf, &mut s.rcv_buf, touched.received, whole);
         s.acklist.clear();
         s.acklist.extend(k.acklist.iter().copied());
         s.buf.clear();
         s.buf.extend_from_slice(&k.buf);
     }
 
+    /// The payload of the received segment with this number, in the queue or held.
+    pub fn stored<O>(k: &Kcp<O>, sn: u32) -> Option<&[u8]> {
+        let held = sn.wrapping_sub(k.rcv_nxt);
+        let segment = if held < 1 << 31 {
+            let at = k.rcv_buf.binary_search_by_key(&held, |x| x.sn.wrapping_sub(k.rcv_nxt)).ok()?;
+            &k.rcv_buf[at]
+        } else {
+            let at = k.rcv_queue.len().checked_sub(k.rcv_nxt.wrapping_sub(sn) as usize)?;
+            &k.rcv_queue[at]
+        };
+        Some(&segment.data)
+    }
+
+    /// The payload of a segment that waits to be sent, by its index in the queue.
+    pub fn waiting<O>(k: &Kcp<O>, i: usize) -> Option<&[u8]> {
+        k.snd_queue.get(i).map(|x| &x.data[..])
+    }
+
+    /// All payloads: queue and held, in flight and waiting.
+    pub fn payloads<O>(k: &Kcp<O>) -> impl Iterator<Item = &[u8]> + '_ {
+        k.rcv_queue.iter().chain(&k.rcv_buf).chain(&k.snd_buf).chain(&k.snd_queue).map(|x| &x.data[..])
+    }
+
     /// Makes the block's state this one.
     pub fn lay<O>(k: &mut Kcp<O>, s: &State) {
+        lay_fields(k, s);
+        k.snd_queue = s.snd_queue.iter().map(own).collect();
+        k.rcv_queue = s.rcv_queue.iter().map(own).collect();
+        k.snd_buf = s.snd_buf.iter().map(own).collect();
+        k.rcv_buf = s.rcv_buf.iter().map(own).collect();
+        k.acklist = s.acklist.iter().copied().collect();
+        k.buf.clear();
+        k.buf.extend_from_slice(&s.buf);
+    }
+
+    /// Makes the block's own numbers this state's, and of its segments in flight those that a script may set.
+    pub fn lay_numbers<O>(k: &mut Kcp<O>, s: &State) {
+        lay_fields(k, s);
+        for (x, y) in k.snd_buf.iter_mut().zip(&s.snd_buf) {
+            x.rto = y.rto;
+            x.fastack = y.fastack;
+            x.xmit = y.xmit;
+        }
+    }
+
+    fn lay_fields<O>(k: &mut Kcp<O>, s: &State) {
         k.conv = s.conv;
         k.mtu = s.mtu;
         k.mss = s.mss;
@@ -124,13 +184,6 @@ pub mod inside {
         k.nocwnd = s.nocwnd;
         k.stream = s.stream;
         k.input_conv = s.input_conv;
-        k.snd_queue = s.snd_queue.iter().map(own).collect();
-        k.rcv_queue = s.rcv_queue.iter().map(own).collect();
-        k.snd_buf = s.snd_buf.iter().map(own).collect();
-        k.rcv_buf = s.rcv_buf.iter().map(own).collect();
-        k.acklist = s.acklist.iter().copied().collect();
-        k.buf.clear();
-        k.buf.extend_from_slice(&s.buf);
     }
 
     /// The writer that the block was made with.

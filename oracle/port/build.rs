@@ -4,13 +4,17 @@
 use std::{env, fs};
 
 /// A group of functions, and the one that stands for it.
-const GROUPS: [(&str, &str); 6] = [
+const GROUPS: [(&str, &str); 10] = [
     ("kcp_c_new", "kcp_new"),
     ("kcp_c_setters", "kcp_set_mtu"),
     ("kcp_c_receive", "kcp_recv"),
     ("kcp_c_send", "kcp_send"),
     ("kcp_c_input", "kcp_input"),
     ("kcp_c_tests", "kcp_receive_test"),
+    ("kcp_c_flush_ack", "kcp_flush_ack"),
+    ("kcp_c_flush", "kcp_flush"),
+    ("kcp_c_update", "kcp_update"),
+    ("kcp_c_check", "kcp_check"),
 ];
 
 /// The names in an archive's index of symbols, which is its first member, in the form of ar: how many, a place for each, the names.

@@ -1,6 +1,7 @@
 //! The calls, and their form as lines of a script: what `compare` prints, `compare --replay` reads.
 
 use crate::domain::LONGEST;
+use state::Touched;
 use std::fmt::{self, Display, Formatter};
 
 /// A payload of which only the length and a seed are written down.
@@ -43,6 +44,11 @@ pub const TELL: u8 = 84;
 
 pub fn datagram(pieces: &[Piece]) -> Vec<u8> {
     let mut out = Vec::new();
+    put_datagram(pieces, &mut out);
+    out
+}
+
+fn put_datagram(pieces: &[Piece], out: &mut Vec<u8>) {
     for piece in pieces {
         match piece {
             Piece::Raw(bytes) => out.extend_from_slice(bytes),
@@ -59,7 +65,6 @@ pub fn datagram(pieces: &[Piece]) -> Vec<u8> {
             }
         }
     }
-    out
 }
 
 /// The sizes of the memory that is lent to the port: receive slots, send slots, acks.
@@ -171,6 +176,28 @@ pub const LEAVES: [&str; 7] =
     ["helper_get_conv", "helper_set_conv", "helper_get_sn", "timediff", "bound", "encode", "estimate"];
 
 impl Call {
+    /// Puts the bytes that the call is handed, a datagram or a message, into a list in place of what is there: so they are made once
+    /// for all that look at them.
+    pub fn put_bytes(&self, into: &mut Vec<u8>) {
+        into.clear();
+        match self {
+            Call::Input(pieces) => put_datagram(pieces, into),
+            Call::Send(fill) => into.extend(fill.bytes()),
+            _ => {}
+        }
+    }
+
+    /// Which lists of segments the call can change, at the least by their numbers.
+    pub fn touched(&self) -> Touched {
+        let (received, to_send) = match self {
+            Call::Start { .. } | Call::Input(_) => (true, true),
+            Call::Recv(_) | Call::MoveBuf => (true, false),
+            Call::Send(_) | Call::Flush | Call::Update(_) | Call::Tune(..) => (false, true),
+            _ => (false, false),
+        };
+        Touched { received, to_send }
+    }
+
     pub fn name(&self) -> &'static str {
         match self {
             Call::Start { .. } => "new",

@@ -1,21 +1,20 @@
 //! Document 01's domain of equality: where the port and the Rust must agree. A call leaves it where the port would answer 11 to 16
 //! or skip a push, where mtu passes 1,500, or where peeksize meets a front segment with frg 255.
 
-use crate::call::{datagram, Call, Sizes, Tuned, PUSH};
+use crate::call::{Call, Sizes, Tuned, PUSH};
 use state::State;
 
 /// The longest message, buffer and setting that a script may name.
 pub const LONGEST: usize = 1 << 24;
 
-/// Why the call leaves the domain, made on a block in this state; `None` where it stays.
-pub fn leaves(call: &Call, s: &State, sizes: Sizes) -> Option<&'static str> {
+/// Why the call leaves the domain, made with these bytes on a block in this state; `None` where it stays.
+pub fn leaves(call: &Call, bytes: &[u8], s: &State, sizes: Sizes) -> Option<&'static str> {
     match call {
-        Call::Input(pieces) => {
-            let bytes = datagram(pieces);
+        Call::Input(_) => {
             if bytes.len() > 1500 {
                 return Some("a datagram over 1,500 bytes");
             }
-            if skips(&bytes, s, sizes.acks) {
+            if skips(bytes, s, sizes.acks) {
                 return Some("a push that the ack list has no room for");
             }
             None
@@ -65,7 +64,7 @@ fn skips(bytes: &[u8], s: &State, most: usize) -> bool {
 fn send_fits(s: &State, len: usize, slots: usize) -> bool {
     let mut rest = len;
     if s.stream {
-        let last = s.snd_queue.last().map_or(s.mss, |x| x.data.len());
+        let last = s.snd_queue.last().map_or(s.mss, |x| x.len);
         rest -= rest.min(s.mss.saturating_sub(last));
         if rest == 0 {
             return true;

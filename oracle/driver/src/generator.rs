@@ -81,6 +81,8 @@ pub struct Generator {
     pub sizes: Sizes,
     /// Tells payloads apart.
     pub mark: u8,
+    /// The bytes that the call is handed which was made last.
+    pub bytes: Vec<u8>,
     pending: VecDeque<Call>,
     left: usize,
     peer: Option<Peer>,
@@ -115,6 +117,7 @@ impl Generator {
             clock: 0,
             sizes,
             mark: random.word() as u8,
+            bytes: Vec::new(),
             pending: VecDeque::new(),
             left,
             peer: None,
@@ -160,13 +163,25 @@ impl Generator {
         self.pending.extend(calls);
     }
 
-    /// The next call, for a block in this state; `None` ends the sequence.
+    /// The next call, for a block in this state, with its bytes in `bytes`; `None` ends the sequence. Of the state only numbers are
+    /// looked at.
     pub fn next(&mut self, s: &State) -> Option<Call> {
+        let call = self.choose(s)?;
+        if let Call::Update(t) = call {
+            self.clock = t;
+        }
+        Some(call)
+    }
+
+    /// Whether the call stays on the domain of equality; its bytes are then in `bytes`.
+    fn stays(&mut self, call: &Call, s: &State) -> bool {
+        call.put_bytes(&mut self.bytes);
+        domain::leaves(call, &self.bytes, s, self.sizes).is_none()
+    }
+
+    fn choose(&mut self, s: &State) -> Option<Call> {
         while let Some(call) = self.pending.pop_front() {
-            if domain::leaves(&call, s, self.sizes).is_none() {
-                if let Call::Update(t) = call {
-                    self.clock = t;
-                }
+            if self.stays(&call, s) {
                 return Some(call);
             }
             // a stretch of pushes has filled the ack list, and goes on when that is flushed
@@ -181,7 +196,7 @@ impl Generator {
         self.left -= 1;
         if let Some(datagram) = self.delivery() {
             let call = Call::Input(vec![Piece::Raw(datagram)]);
-            if domain::leaves(&call, s, self.sizes).is_none() {
+            if self.stays(&call, s) {
                 return Some(call);
             }
         }
@@ -193,10 +208,7 @@ impl Generator {
         for _ in 0..8 {
             let kind = self.random.weighted(moves::weights(self.profile));
             let call = moves::make(kind, self, s);
-            if domain::leaves(&call, s, self.sizes).is_none() {
-                if let Call::Update(t) = call {
-                    self.clock = t;
-                }
+            if self.stays(&call, s) {
                 return Some(call);
             }
         }
@@ -216,7 +228,7 @@ impl Generator {
         let clock = self.clock;
         let random = &mut self.random;
         if let Some(peer) = &mut self.peer {
-            for d in &outcome.datagrams {
+            for d in outcome.datagrams.iter() {
                 if !random.once_in(6) {
                     let _ = peer.kcp.input(d);
                 }
@@ -271,7 +283,8 @@ impl Peer {
         }
         let _ = self.kcp.update(clock);
         let sink = kcp_judge::inside::output(&mut self.kcp);
-        self.inbox.extend(sink.datagrams.drain(..));
+        self.inbox.extend(sink.datagrams.iter().map(|d| d.to_vec()));
+        sink.datagrams.clear();
         while self.inbox.len() > 64 {
             self.inbox.pop_front();
         }

@@ -2,6 +2,7 @@
 
 pub mod call;
 pub mod domain;
+pub mod ends;
 pub mod generator;
 pub mod moves;
 pub mod random;

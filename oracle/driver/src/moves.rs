@@ -527,7 +527,7 @@ fn bad(g: &mut Generator, s: &State) -> Call {
 fn room(g: &mut Generator, s: &State) -> usize {
     let mut message = 0;
     for x in &s.rcv_queue {
-        message += x.data.len();
+        message += x.len;
         if x.frg == 0 {
             break;
         }
@@ -542,7 +542,7 @@ fn room(g: &mut Generator, s: &State) -> usize {
 }
 
 fn send_length(r: &mut Random, s: &State) -> usize {
-    let last = s.snd_queue.last().map_or(0, |x| x.data.len());
+    let last = s.snd_queue.last().map_or(0, |x| x.len);
     match r.below(10) {
         0 => 0,
         1 => s.mss,
@@ -670,7 +670,9 @@ fn leaf(r: &mut Random) -> Call {
                 una: edge(r),
                 len: None,
             };
-            Call::Encode(h, r.pick(&[0, 1, 255, 256, 1476, 65_535, 65_536, 1 << 20]).max(r.below(3000) as u32))
+            // a long payload is dear, since the Rust's own encode needs it whole to count it
+            let len = r.weighted(&[(0, 40), (1, 40), (255, 40), (256, 40), (1476, 40), (65_535, 4), (65_536, 4), (1 << 20, 1)]);
+            Call::Encode(h, len.max(r.below(3000) as u32))
         }
     }
 }

@@ -277,14 +277,14 @@ impl Reach {
         let used = |s: &State| s.snd_buf.len() + s.snd_queue.len();
         let more = used(after) - used(before);
         let at = before.snd_queue.len().wrapping_sub(1);
-        let joined = before.snd_queue.last().map_or(false, |x| after.snd_queue[at].data.len() > x.data.len());
+        let joined = before.snd_queue.last().map_or(false, |x| after.snd_queue[at].len > x.len);
         self.note("send: empty, plain", len == 0 && !stream);
         self.note("send: empty, stream", len == 0 && stream);
         self.note("send: a stream joins the last segment, no new one", answered && joined && more == 0);
         self.note("send: a stream joins the last segment, and new ones", answered && joined && more > 0);
-        let long = before.snd_queue.last().map_or(false, |x| x.data.len() > before.mss);
+        let long = before.snd_queue.last().map_or(false, |x| x.len > before.mss);
         self.note("send: a stream with a last segment that is longer than mss", answered && stream && long && len > 0);
-        let flown = before.snd_queue.is_empty() && before.snd_buf.last().map_or(false, |x| x.data.len() < before.mss);
+        let flown = before.snd_queue.is_empty() && before.snd_buf.last().map_or(false, |x| x.len < before.mss);
         self.note("send: a stream with segments in flight and none waiting", answered && stream && flown && len > 0);
         self.note("send: 8, plain", !answered && !stream);
         self.note("send: 8, stream, after a fill", !answered && stream && joined);

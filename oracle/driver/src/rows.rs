@@ -175,13 +175,13 @@ fn hi(b: &mut Bench) -> Result<(), String> {
     s.snd_queue[0].data = b"hi".to_vec();
     b.side.lay(&s, SIZES);
     b.call(Call::Update(0));
-    same("datagrams of update(0)", b.out.datagrams.len(), 0)?;
+    same("datagrams of update(0)", b.out.datagrams.lengths.len(), 0)?;
     same("cwnd", b.state().cwnd, 1)?;
     b.call(Call::Update(100));
     let wanted = vec![
         0x44, 0x33, 0x22, 0x11, 0x51, 0, 0x80, 0, 0x64, 0, 0, 0, 0, 0, 0, 0, 0, 0, 0, 0, 2, 0, 0, 0, 0x68, 0x69,
     ];
-    same("the datagrams", b.out.datagrams.clone(), vec![wanted])?;
+    same("the datagrams", b.out.datagrams.iter().map(|d| d.to_vec()).collect(), vec![wanted])?;
     same("resendts", b.state().snd_buf[0].resendts, 325)
 }
 

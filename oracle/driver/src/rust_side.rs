@@ -5,15 +5,17 @@ use std::io;
 use std::panic;
 use std::sync::Once;
 
+use crate::side::Datagrams;
+
 /// Keeps what the block writes: each write is a datagram.
 #[derive(Default)]
 pub struct Sink {
-    pub datagrams: Vec<Vec<u8>>,
+    pub datagrams: Datagrams,
 }
 
 impl io::Write for Sink {
     fn write(&mut self, data: &[u8]) -> io::Result<usize> {
-        self.datagrams.push(data.to_vec());
+        self.datagrams.push(data);
         Ok(data.len())
     }
 
@@ -51,11 +53,13 @@ macro_rules! rust_side {
         pub struct $name {
             kcp: $krate::Kcp<$crate::rust_side::Sink>,
             largest: u16,
+            /// The state as it was read last.
+            read: state::State,
         }
 
         impl Default for $name {
             fn default() -> $name {
-                $name { kcp: $krate::Kcp::new(0, $crate::rust_side::Sink::default()), largest: 128 }
+                $name { kcp: $krate::Kcp::new(0, $crate::rust_side::Sink::default()), largest: 128, read: state::State::default() }
             }
         }
 
@@ -107,9 +111,9 @@ macro_rules! rust_side {
 
             fn tune(&mut self, what: $crate::call::Tuned, value: u64) {
                 let mut s = state::State::default();
-                $krate::inside::read(&self.kcp, &mut s);
+                $krate::inside::read_numbers(&self.kcp, &mut s, state::Touched::ALL);
                 $crate::run::tune(&mut s, what, value);
-                $krate::inside::lay(&mut self.kcp, &s);
+                $krate::inside::lay_numbers(&mut self.kcp, &s);
             }
 
             fn get(&self, getter: $crate::call::Getter) -> $crate::side::Answer {
@@ -195,7 +199,7 @@ macro_rules! rust_side {
                 };
             }
 
-            fn call(&mut self, call: &$crate::call::Call, out: &mut $crate::side::Outcome) {
+            fn call(&mut self, call: &$crate::call::Call, bytes: &[u8], out: &mut $crate::side::Outcome) {
                 use $crate::call::Call as C;
                 use $crate::side::Answer as A;
                 let k = &mut self.kcp;
@@ -208,16 +212,13 @@ macro_rules! rust_side {
                         self.tune(*what, *value);
                         A::Nothing
                     }
-                    C::Input(pieces) => $name::counted(k.input(&$crate::call::datagram(pieces))),
+                    C::Input(_) => $name::counted(k.input(bytes)),
                     C::Recv(n) => {
                         out.buffer.resize(*n, $crate::rust_side::BLANK);
                         $name::counted(k.recv(&mut out.buffer))
                     }
                     C::Peeksize => $name::counted(k.peeksize()),
-                    C::Send(fill) => {
-                        let bytes: Vec<u8> = fill.bytes().collect();
-                        $name::counted(k.send(&bytes))
-                    }
+                    C::Send(_) => $name::counted(k.send(bytes)),
                     C::Update(t) => $name::done(k.update(*t)),
                     C::Flush => $name::done(k.flush()),
                     C::FlushAck => $name::done(k.flush_ack()),
@@ -282,17 +283,40 @@ macro_rules! rust_side {
                 true
             }
 
-            fn apply(&mut self, call: &$crate::call::Call, out: &mut $crate::side::Outcome) {
-                *out = $crate::side::Outcome::new();
-                if !$crate::rust_side::quietly(|| self.call(call, out)) {
+            fn make(&mut self, call: &$crate::call::Call, bytes: &[u8], out: &mut $crate::side::Outcome) {
+                out.clear();
+                if !$crate::rust_side::quietly(|| self.call(call, bytes, out)) {
                     out.answer = $crate::side::Answer::Panicked;
                 }
-                out.datagrams = std::mem::take(&mut $krate::inside::output(&mut self.kcp).datagrams);
+                std::mem::swap(&mut out.datagrams, &mut $krate::inside::output(&mut self.kcp).datagrams);
             }
 
             fn read(&self, into: &mut state::State) {
                 $krate::inside::read(&self.kcp, into);
                 into.largest = self.largest;
+            }
+
+            fn read_numbers(&self, into: &mut state::State, touched: state::Touched) {
+                $krate::inside::read_numbers(&self.kcp, into, touched);
+                into.largest = self.largest;
+            }
+
+            fn agrees(&mut self, s: &state::State, _: state::Touched) -> bool {
+                $krate::inside::read_numbers(&self.kcp, &mut self.read, state::Touched::ALL);
+                self.read.largest = self.largest;
+                self.read == *s
+            }
+
+            fn payloads(&self) -> Box<dyn Iterator<Item = &[u8]> + '_> {
+                Box::new($krate::inside::payloads(&self.kcp))
+            }
+
+            fn stored(&self, sn: u32) -> Option<&[u8]> {
+                $krate::inside::stored(&self.kcp, sn)
+            }
+
+            fn waiting(&self, i: usize) -> Option<&[u8]> {
+                $krate::inside::waiting(&self.kcp, i)
             }
 
             fn lay(&mut self, state: &state::State, _: $crate::call::Sizes) {

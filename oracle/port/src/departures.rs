@@ -3,6 +3,7 @@
 
 mod damage;
 mod ground;
+mod outs;
 mod rings;
 
 use crate::exports;
@@ -16,7 +17,7 @@ use state::State;
 type Row = fn() -> Result<(), String>;
 
 /// Name, the calls that it needs, what it runs.
-const ROWS: [(&str, &[&str], Row); 38] = [
+const ROWS: [(&str, &[&str], Row); 42] = [
     ("a sound block, wherever it is laid: none of the calls below is refused", &["recv"], damage::sound),
     ("14: R = 256, rcvwnd 128 passes", &["set_wndsize"], window_passes),
     ("14: R = 256, rcvwnd 129 is refused, both windows as they were", &["set_wndsize"], window_refused),
@@ -55,6 +56,10 @@ const ROWS: [(&str, &[&str], Row); 38] = [
     ("frg 255: 256 queued are one message", &["recv"], frg_255_whole),
     ("15: a block made with sizes outside the limits; those on them pass", &["new"], made),
     ("10: mtu 1,501 and 49 are refused, 1,500 and 50 pass", &["set_mtu"], mtu),
+    ("13: flush with bytes and lengths of every size: too small, all as it was; enough, as the Rust", &["flush"], outs::flush),
+    ("13: flush_ack the same", &["flush_ack"], outs::flush_ack),
+    ("13: update the same, the clock too, and `updated` at the first", &["update"], outs::update),
+    ("13: 15 and 9 come before; what puts nothing out needs no room", &["flush", "flush_ack", "update"], outs::order),
 ];
 
 /// Runs every row that the library has the calls for: how many are wrong, and a line for each.

@@ -1,14 +1,14 @@
 //! The functions of the static library, each behind a safe one. A group of them that the library lacks is declared all the same,
 //! as functions that are never called: `has` says which calls the port has.
 
-use crate::memory::{Lent, Memory};
-use crate::watch::Before;
-use driver::call::{datagram, Call, Header, LEAVES};
+use crate::memory::{at, Lent, Memory};
+use crate::out::Out;
+use driver::call::{Call, Getter, Header};
 use driver::rust_side::BLANK;
 use driver::side::{Answer, Outcome};
 
 /// The calls of each group, by name, and whether the library has the group.
-const GROUPS: [(bool, &[&str]); 6] = [
+const GROUPS: [(bool, &[&str]); 11] = [
     (cfg!(kcp_c), &["timediff", "bound", "encode", "estimate", "helper_get_conv", "helper_set_conv", "helper_get_sn"]),
     (cfg!(kcp_c_new), &["new"]),
     (
@@ -21,7 +21,21 @@ const GROUPS: [(bool, &[&str]); 6] = [
     (cfg!(kcp_c_receive), &["recv", "peeksize", "move_buf", "set_wndsize"]),
     (cfg!(kcp_c_send), &["send"]),
     (cfg!(kcp_c_input), &["input"]),
+    (cfg!(kcp_c_flush_ack), &["flush_ack"]),
+    (cfg!(kcp_c_flush), &["flush"]),
+    (cfg!(kcp_c_update), &["update"]),
+    (cfg!(kcp_c_check), &["check"]),
+    // a host reads these in the words of the block, and needs no function
+    (
+        cfg!(kcp_c_new),
+        &[
+            "conv", "waiting_conv", "mtu", "mss", "snd_wnd", "rcv_wnd", "rmt_wnd", "wait_snd", "header_len", "is_stream", "is_dead_link",
+        ],
+    ),
 ];
+
+/// What sends datagrams or tells when to; these come last.
+pub const FLUSHES: [&str; 4] = ["flush_ack", "flush", "update", "check"];
 
 /// The calls that the port has.
 pub fn all() -> Vec<&'static str> {
@@ -35,9 +49,18 @@ pub fn has(name: &str) -> bool {
 /// Whether it has the tests that every call which is handed memory makes, as functions of their own.
 pub const HAS_TESTS: bool = cfg!(kcp_c_tests);
 
-/// Whether it has any call on a block.
-pub fn has_block() -> bool {
-    all().iter().any(|name| !LEAVES.contains(name))
+/// Whether it has all calls on a block but those of FLUSHES: then those that it lacks of these can be made by a copy of the Rust.
+pub const HAS_BLOCK: bool =
+    cfg!(all(kcp_c, kcp_c_new, kcp_c_setters, kcp_c_receive, kcp_c_send, kcp_c_input));
+
+/// Whether it has each of these, for who calls them often.
+pub const HAS_FLUSH: bool = cfg!(kcp_c_flush);
+pub const HAS_UPDATE: bool = cfg!(kcp_c_update);
+pub const HAS_CHECK: bool = cfg!(kcp_c_check);
+
+/// Whether it has these too, so that no copy is needed.
+pub fn has_flushes() -> bool {
+    FLUSHES.iter().all(|name| has(name))
 }
 
 macro_rules! linked {
@@ -57,7 +80,10 @@ macro_rules! linked {
     };
 }
 
-#[cfg(not(all(kcp_c, kcp_c_new, kcp_c_setters, kcp_c_receive, kcp_c_send, kcp_c_input, kcp_c_tests)))]
+#[cfg(not(all(
+    kcp_c, kcp_c_new, kcp_c_setters, kcp_c_receive, kcp_c_send, kcp_c_input, kcp_c_tests, kcp_c_flush_ack, kcp_c_flush, kcp_c_update,
+    kcp_c_check
+)))]
 fn lacking(name: &str) -> ! {
     eprintln!("the library has no {}", name);
     std::process::exit(2)
@@ -135,6 +161,34 @@ linked! {
             data: *const u8, len: usize, values: *mut [usize; 2], skipped: *mut u32,
         ) -> u32;
     }
+    kcp_c_flush_ack {
+        fn kcp_flush_ack(
+            words: *mut u32, n: usize, acks: *const u32, ack_numbers: usize, waiting: *mut u8, waiting_bytes: usize,
+            out: *mut u8, out_bytes: usize, lengths: *mut u16, lengths_count: usize, datagrams: *mut usize,
+        ) -> u32;
+    }
+    kcp_c_flush {
+        fn kcp_flush(
+            words: *mut u32, n: usize,
+            snd_records: *mut u32, snd_numbers: usize, snd_room: *const u8, snd_bytes: usize,
+            acks: *const u32, ack_numbers: usize, waiting: *const u8, waiting_bytes: usize,
+            out: *mut u8, out_bytes: usize, lengths: *mut u16, lengths_count: usize, datagrams: *mut usize,
+        ) -> u32;
+    }
+    kcp_c_update {
+        fn kcp_update(
+            words: *mut u32, n: usize, current: u32,
+            snd_records: *mut u32, snd_numbers: usize, snd_room: *const u8, snd_bytes: usize,
+            acks: *const u32, ack_numbers: usize, waiting: *const u8, waiting_bytes: usize,
+            out: *mut u8, out_bytes: usize, lengths: *mut u16, lengths_count: usize, datagrams: *mut usize,
+        ) -> u32;
+    }
+    kcp_c_check {
+        fn kcp_check(
+            words: *const u32, n: usize, current: u32,
+            snd_records: *const u32, snd_numbers: usize, snd_room: *const u8, snd_bytes: usize, wait: *mut u32,
+        ) -> u32;
+    }
     kcp_c_tests {
         fn kcp_receive_test(
             words: *const u32, n: usize, records: *const u32, numbers: usize, room: *const u8, bytes: usize,
@@ -181,7 +235,7 @@ fn encode(h: &Header, len: u32, out: &mut Outcome) {
 
 /// Makes a call that takes no block.
 pub fn apply_leaf(call: &Call, out: &mut Outcome) {
-    *out = Outcome::new();
+    out.clear();
     match call {
         Call::Timediff(a, b) => out.answer = Answer::Signed(unsafe { kcp_timediff(*a, *b) } as i64),
         Call::Bound(a, b, c) => out.answer = Answer::Number(unsafe { kcp_bound(*a, *b, *c) } as u64),
@@ -296,6 +350,47 @@ pub fn input(m: &mut Memory, data: &[u8], values: &mut [usize; 2], skipped: &mut
     }
 }
 
+pub fn flush_ack(m: &mut Memory, o: &mut Out) -> u32 {
+    let (w, a, b) = (&mut m.words, &m.acks, &mut m.waiting);
+    unsafe {
+        kcp_flush_ack(
+            w.as_mut_ptr(), w.len(), a.as_ptr(), a.len(), b.as_mut_ptr(), b.len(),
+            o.bytes.as_mut_ptr(), o.bytes.len(), o.lengths.as_mut_ptr(), o.lengths.len(), &mut o.datagrams,
+        )
+    }
+}
+
+pub fn flush(m: &mut Memory, o: &mut Out) -> u32 {
+    let (w, a, b, s) = (&mut m.words, &m.acks, &m.waiting, &mut m.send);
+    unsafe {
+        kcp_flush(
+            w.as_mut_ptr(), w.len(),
+            s.records.as_mut_ptr(), s.records.len(), s.room.as_ptr(), s.room.len(),
+            a.as_ptr(), a.len(), b.as_ptr(), b.len(),
+            o.bytes.as_mut_ptr(), o.bytes.len(), o.lengths.as_mut_ptr(), o.lengths.len(), &mut o.datagrams,
+        )
+    }
+}
+
+pub fn update(m: &mut Memory, current: u32, o: &mut Out) -> u32 {
+    let (w, a, b, s) = (&mut m.words, &m.acks, &m.waiting, &mut m.send);
+    unsafe {
+        kcp_update(
+            w.as_mut_ptr(), w.len(), current,
+            s.records.as_mut_ptr(), s.records.len(), s.room.as_ptr(), s.room.len(),
+            a.as_ptr(), a.len(), b.as_ptr(), b.len(),
+            o.bytes.as_mut_ptr(), o.bytes.len(), o.lengths.as_mut_ptr(), o.lengths.len(), &mut o.datagrams,
+        )
+    }
+}
+
+pub fn check(m: &Memory, current: u32, wait: &mut u32) -> u32 {
+    let (w, s) = (&m.words, &m.send);
+    unsafe {
+        kcp_check(w.as_ptr(), w.len(), current, s.records.as_ptr(), s.records.len(), s.room.as_ptr(), s.room.len(), wait)
+    }
+}
+
 /// Whether block and receive memory are well formed: 0, or 15.
 pub fn receive_test(m: &Memory) -> u32 {
     let (w, l) = (&m.words, &m.receive);
@@ -308,9 +403,11 @@ pub fn send_test(m: &Memory) -> u32 {
     unsafe { kcp_send_test(w.as_ptr(), w.len(), l.records.as_ptr(), l.records.len(), l.room.as_ptr(), l.room.len()) }
 }
 
+/// What a place holds before a call puts its answer there.
+const BEFORE: usize = 0x5555_5555;
+
 /// The answer of a call that puts a length into its place, which a refusal leaves.
 fn counted(call: impl FnOnce(&mut usize) -> u32) -> Answer {
-    const BEFORE: usize = 0x5555_5555;
     let mut length = BEFORE;
     match call(&mut length) {
         0 => Answer::Number(length as u64),
@@ -330,7 +427,6 @@ fn carried(number: u32) -> usize {
 
 /// An input, its values and the pushes skipped; a value that the answer does not carry must be 0.
 fn input_answer(m: &mut Memory, data: &[u8], out: &mut Outcome) -> Option<String> {
-    const BEFORE: usize = 0x5555_5555;
     let mut values = [BEFORE; 2];
     out.skipped = BEFORE as u32;
     let number = input(m, data, &mut values, &mut out.skipped);
@@ -345,9 +441,9 @@ fn input_answer(m: &mut Memory, data: &[u8], out: &mut Outcome) -> Option<String
 /// A block made anew, whose numbers then start at `rcv` and `snd`.
 fn start(m: &mut Memory, conv: u32, stream: bool, rcv: u32, snd: u32) -> Answer {
     let answer = done(new(m, conv, stream));
-    m.set_number("rcv_nxt", rcv);
-    m.set_number("snd_una", snd);
-    m.set_number("snd_nxt", snd);
+    m.put(at::RCV_NXT, rcv);
+    m.put(at::SND_UNA, snd);
+    m.put(at::SND_NXT, snd);
     answer
 }
 
@@ -372,14 +468,54 @@ fn set(m: &mut Memory, call: &Call) -> Answer {
     done(number)
 }
 
-/// Makes a call on the block that the memory holds, and watches what else it writes there; of the payloads only now and then, unless
-/// all is to be watched, since they are many.
-pub fn apply(m: &mut Memory, call: &Call, all: bool, out: &mut Outcome) {
-    *out = Outcome::new();
-    let before = Before::of(m, call, all);
-    let mut odd = None;
+/// What a getter answers, read in the words as a host would.
+fn got(m: &Memory, getter: Getter) -> Answer {
+    let number = |n: u32| Answer::Number(n as u64);
+    match getter {
+        Getter::Conv => number(m.at(at::CONV)),
+        Getter::WaitingConv => Answer::Flag(m.at(at::INPUT_CONV) != 0),
+        Getter::Mtu => number(m.at(at::MTU)),
+        Getter::Mss => number(m.at(at::MSS)),
+        Getter::SndWnd => number(m.at(at::SND_WND)),
+        Getter::RcvWnd => number(m.at(at::RCV_WND)),
+        Getter::RmtWnd => number(m.at(at::RMT_WND)),
+        Getter::WaitSnd => number(m.at(at::FLYING) + m.at(at::UNSENT)),
+        Getter::HeaderLen => number(24),
+        Getter::IsStream => Answer::Flag(m.at(at::STREAM) != 0),
+        Getter::IsDeadLink => Answer::Flag(m.at(at::DEAD) != 0),
+    }
+}
+
+/// A call that sends datagrams, and what is wrong with what it wrote beside them.
+fn flushed(m: &mut Memory, call: &Call, o: &mut Out, out: &mut Outcome) -> Option<String> {
+    o.lend(m);
+    let number = match call {
+        Call::FlushAck => flush_ack(m, o),
+        Call::Flush => flush(m, o),
+        Call::Update(current) => update(m, *current, o),
+        _ => return Some("no flush".to_string()),
+    };
+    out.answer = done(number);
+    o.collect(number, &mut out.datagrams)
+}
+
+/// The wait that a check answers, which a refusal leaves.
+fn waits(m: &Memory, current: u32) -> Answer {
+    let mut wait = BEFORE as u32;
+    match check(m, current, &mut wait) {
+        0 => Answer::Number(wait as u64),
+        n if wait == BEFORE as u32 => refused(n),
+        _ => Answer::Panicked,
+    }
+}
+
+/// Makes a call, which is handed these bytes, on the block that the memory holds.
+pub fn apply(m: &mut Memory, call: &Call, bytes: &[u8], o: &mut Out, out: &mut Outcome) {
+    out.clear();
     match call {
         Call::Start { conv, stream, rcv, snd, .. } => out.answer = start(m, *conv, *stream, *rcv, *snd),
+        Call::Tune(what, value) => m.tune(*what, *value),
+        Call::Get(getter) => out.answer = got(m, *getter),
         Call::Recv(n) => {
             out.buffer.resize(*n, BLANK);
             let buffer = &mut out.buffer;
@@ -388,18 +524,21 @@ pub fn apply(m: &mut Memory, call: &Call, all: bool, out: &mut Outcome) {
         Call::Peeksize => out.answer = counted(|length| peeksize(m, length)),
         Call::MoveBuf => out.answer = done(move_buf(m)),
         Call::SetWndsize(snd, rcv) => out.answer = done(set_wndsize(m, *snd, *rcv)),
-        Call::Send(fill) => {
-            let data: Vec<u8> = fill.bytes().collect();
-            out.answer = counted(|queued| send(m, &data, queued));
+        Call::Send(_) => {
+            let was = m.snd_ring();
+            out.answer = counted(|queued| send(m, bytes, queued));
+            let is = m.snd_ring();
+            out.moved = (was.places, was.reach) != (is.places, is.reach);
         }
-        Call::Input(pieces) => odd = input_answer(m, &datagram(pieces), out),
+        Call::Input(_) => out.stray = input_answer(m, bytes, out),
+        Call::Flush | Call::FlushAck | Call::Update(_) => out.stray = flushed(m, call, o, out),
+        Call::Check(current) => out.answer = waits(m, *current),
         setter => out.answer = set(m, setter),
     }
-    out.stray = odd.or_else(|| before.stray(m, call, out)).or_else(|| tested(m));
 }
 
 /// What the library's own tests have against the memory that a call has left, which is well formed.
-fn tested(m: &Memory) -> Option<String> {
+pub fn tested(m: &Memory) -> Option<String> {
     if HAS_TESTS && (receive_test(m), send_test(m)) != (0, 0) {
         return Some("the library's own test finds it not well formed".to_string());
     }

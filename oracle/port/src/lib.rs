@@ -4,6 +4,7 @@ pub mod departures;
 pub mod exports;
 pub mod joined;
 pub mod memory;
+pub mod out;
 pub mod watch;
 
 #[cfg(test)]

@@ -13,9 +13,9 @@
 //! them such that the wrap falls among what is in use, with gaps in flight, and with stale words at every other place. The random
 //! number is made of the state, so that a script that is run again finds the same places.
 
-use driver::call::{Sizes, PUSH};
+use driver::call::{Sizes, Tuned, PUSH};
 use driver::random::Random;
-use state::{Segment, State};
+use state::{Segment, State, Touched};
 
 pub const ROOM: usize = 1476;
 pub const WAITING: usize = 1500;
@@ -30,41 +30,70 @@ pub const ROW: usize = 8;
 /// The bits of word 0 that are flags; the others are 0.
 const FLAGS: u32 = 64;
 
-/// The numbers of a block: name, word, lowest bit there, and how many bits.
-pub const NUMBERS: [(&str, usize, u32, u32); 43] = [
-    ("nodelay", 0, 0, 1), ("nocwnd", 0, 1, 1), ("stream", 0, 2, 1), ("input_conv", 0, 3, 1), ("updated", 0, 4, 1), ("dead", 0, 5, 1),
-    ("mtu", 1, 0, 32), ("mss", 2, 0, 32), ("probe_wait", 3, 0, 32), ("rcv_nxt", 4, 0, 32), ("rcv_wnd", 5, 0, 16), ("largest", 5, 16, 16),
-    ("rcv_start", 6, 0, 32), ("queued", 7, 0, 32), ("rcv_reach", 8, 0, 32), ("snd_start", 9, 0, 32), ("snd_reach", 10, 0, 32),
-    ("flying", 11, 0, 32), ("unsent", 12, 0, 32), ("acks", 13, 0, 32), ("waiting", 14, 0, 32), ("probe", 15, 0, 32), ("conv", 16, 0, 32),
-    ("snd_una", 17, 0, 32), ("snd_nxt", 18, 0, 32), ("snd_wnd", 19, 0, 16), ("rmt_wnd", 19, 16, 16), ("cwnd", 20, 0, 16),
-    ("ssthresh", 20, 16, 16), ("incr_low", 21, 0, 32), ("incr_high", 22, 0, 32), ("rx_srtt", 23, 0, 32), ("rx_rttval", 24, 0, 32),
-    ("rx_rto", 25, 0, 32), ("rx_minrto", 26, 0, 32), ("current", 27, 0, 32), ("interval", 28, 0, 32), ("ts_flush", 29, 0, 32),
-    ("ts_probe", 30, 0, 32), ("xmit", 31, 0, 32), ("fastresend", 32, 0, 32), ("fastlimit", 33, 0, 32), ("dead_link", 34, 0, 32),
-];
+/// Where a number stands: its word, its lowest bit there, and its largest value.
+#[derive(Clone, Copy, PartialEq, Eq, Debug)]
+pub struct Spot {
+    word: usize,
+    low: u32,
+    most: u32,
+}
 
-/// Where the number of that name stands: its word, its lowest bit, and its largest value.
-fn spot(name: &str) -> (usize, u32, u32) {
+impl Spot {
+    #[inline]
+    pub fn of(self, words: &[u32]) -> u32 {
+        words[self.word] >> self.low & self.most
+    }
+
+    #[inline]
+    fn put(self, words: &mut [u32], value: u32) {
+        assert!(value <= self.most, "word {} has no room for {}", self.word, value);
+        words[self.word] = words[self.word] & !(self.most << self.low) | value << self.low;
+    }
+}
+
+macro_rules! numbers {
+    ($($spot:ident $name:ident $word:literal $low:literal $bits:literal;)*) => {
+        /// The spot of each number, under its name.
+        pub mod at {
+            use super::Spot;
+            $(pub const $spot: Spot = Spot { word: $word, low: $low, most: u32::MAX >> (32 - $bits) };)*
+        }
+
+        /// All numbers by name.
+        pub const NUMBERS: [(&str, Spot); 43] = [$((stringify!($name), at::$spot)),*];
+    };
+}
+
+// name, word, lowest bit there, and how many bits
+numbers! {
+    NODELAY nodelay 0 0 1; NOCWND nocwnd 0 1 1; STREAM stream 0 2 1; INPUT_CONV input_conv 0 3 1; UPDATED updated 0 4 1;
+    DEAD dead 0 5 1; MTU mtu 1 0 32; MSS mss 2 0 32; PROBE_WAIT probe_wait 3 0 32; RCV_NXT rcv_nxt 4 0 32;
+    RCV_WND rcv_wnd 5 0 16; LARGEST largest 5 16 16; RCV_START rcv_start 6 0 32; QUEUED queued 7 0 32;
+    RCV_REACH rcv_reach 8 0 32; SND_START snd_start 9 0 32; SND_REACH snd_reach 10 0 32; FLYING flying 11 0 32;
+    UNSENT unsent 12 0 32; ACKS acks 13 0 32; WAITING waiting 14 0 32; PROBE probe 15 0 32; CONV conv 16 0 32;
+    SND_UNA snd_una 17 0 32; SND_NXT snd_nxt 18 0 32; SND_WND snd_wnd 19 0 16; RMT_WND rmt_wnd 19 16 16; CWND cwnd 20 0 16;
+    SSTHRESH ssthresh 20 16 16; INCR_LOW incr_low 21 0 32; INCR_HIGH incr_high 22 0 32; RX_SRTT rx_srtt 23 0 32;
+    RX_RTTVAL rx_rttval 24 0 32; RX_RTO rx_rto 25 0 32; RX_MINRTO rx_minrto 26 0 32; CURRENT current 27 0 32;
+    INTERVAL interval 28 0 32; TS_FLUSH ts_flush 29 0 32; TS_PROBE ts_probe 30 0 32; XMIT xmit 31 0 32;
+    FASTRESEND fastresend 32 0 32; FASTLIMIT fastlimit 33 0 32; DEAD_LINK dead_link 34 0 32;
+}
+
+/// Where the number of that name stands.
+fn spot(name: &str) -> Spot {
     match NUMBERS.iter().find(|n| n.0 == name) {
-        Some((_, word, low, bits)) => (*word, *low, u32::MAX >> (32 - bits)),
+        Some(n) => n.1,
         None => panic!("a block has no number called '{}'", name),
     }
 }
 
 /// The largest value of the number of that name.
 pub fn most(name: &str) -> u32 {
-    spot(name).2
+    spot(name).most
 }
 
 /// The number of that name among the words of a block.
 pub fn number_of(words: &[u32], name: &str) -> u32 {
-    let (word, low, most) = spot(name);
-    words[word] >> low & most
-}
-
-fn put_number(words: &mut [u32], name: &str, value: u32) {
-    let (word, low, most) = spot(name);
-    assert!(value <= most, "{} has no room for {}", name, value);
-    words[word] = words[word] & !(most << low) | value << low;
+    spot(name).of(words)
 }
 
 /// The places of a ring's indices.
@@ -75,12 +104,25 @@ pub struct Places {
 }
 
 impl Places {
+    #[inline]
     pub fn place(self, i: usize) -> usize {
-        (self.start % self.slots + i) % self.slots
+        let at = self.start + i;
+        // a division is dear where many places are looked at
+        if at < self.slots {
+            at
+        } else if at < 2 * self.slots {
+            at - self.slots
+        } else {
+            at % self.slots
+        }
     }
 
     /// The index that stands at a place.
+    #[inline]
     pub fn index(self, place: usize) -> usize {
+        if self.start <= place && place < self.slots {
+            return place - self.start;
+        }
         (place + self.slots - self.start % self.slots) % self.slots
     }
 }
@@ -102,8 +144,8 @@ pub struct SndRing {
 
 impl RcvRing {
     pub fn of(words: &[u32], slots: usize) -> RcvRing {
-        let number = |name: &str| number_of(words, name) as usize;
-        RcvRing { places: Places { slots, start: number("rcv_start") }, queued: number("queued"), reach: number("rcv_reach") }
+        let number = |spot: Spot| spot.of(words) as usize;
+        RcvRing { places: Places { slots, start: number(at::RCV_START) }, queued: number(at::QUEUED), reach: number(at::RCV_REACH) }
     }
 
     /// The first index behind what is in use.
@@ -114,12 +156,12 @@ impl RcvRing {
 
 impl SndRing {
     pub fn of(words: &[u32], slots: usize) -> SndRing {
-        let number = |name: &str| number_of(words, name) as usize;
+        let number = |spot: Spot| spot.of(words) as usize;
         SndRing {
-            places: Places { slots, start: number("snd_start") },
-            reach: number("snd_reach"),
-            flying: number("flying"),
-            unsent: number("unsent"),
+            places: Places { slots, start: number(at::SND_START) },
+            reach: number(at::SND_REACH),
+            flying: number(at::FLYING),
+            unsent: number(at::UNSENT),
         }
     }
 
@@ -156,6 +198,11 @@ impl Lent {
         Lent { records: vec![STALE; slots * width], room: vec![0xEE; slots * ROOM] }
     }
 
+    /// How many bytes so many slots have.
+    pub fn bytes(slots: usize) -> usize {
+        slots * ROOM
+    }
+
     pub fn resize(&mut self, slots: usize, width: usize) {
         self.records.resize(slots * width, 0);
         self.room.resize(slots * ROOM, 0);
@@ -163,7 +210,7 @@ impl Lent {
 
     /// The payload at a place whose slot has this mark; no more than the slot's bytes.
     fn payload(&self, place: usize, mark: u32) -> &[u8] {
-        &self.room[place * ROOM..][..(mark.saturating_sub(1) as usize).min(ROOM)]
+        &self.room[place * ROOM..][..length_of(mark).min(ROOM)]
     }
 
     fn put_payload(&mut self, place: usize, data: &[u8]) {
@@ -172,7 +219,12 @@ impl Lent {
 }
 
 fn mark_of(s: &Segment) -> u32 {
-    s.data.len() as u32 + 1
+    s.len as u32 + 1
+}
+
+/// The length of the payload that a mark stands for.
+fn length_of(mark: u32) -> usize {
+    mark.saturating_sub(1) as usize
 }
 
 /// The word of a receive slot.
@@ -185,8 +237,9 @@ fn row_of(s: &Segment) -> [u32; ROW] {
     [s.conv, s.frg as u32, s.sn, s.ts, s.resendts, s.rto, s.fastack, s.xmit]
 }
 
-fn of_row(n: &[u32], cmd: u8) -> Segment {
+fn of_row(n: &[u32], cmd: u8, mark: u32) -> Segment {
     Segment {
+        len: length_of(mark),
         conv: n[0],
         cmd,
         frg: n[1] as u8,
@@ -198,6 +251,28 @@ fn of_row(n: &[u32], cmd: u8) -> Segment {
         xmit: n[7],
         ..Segment::default()
     }
+}
+
+/// The words of a block in this state; those of the rings are 0.
+fn words_of(s: &State) -> [u32; WORDS] {
+    let incr = s.incr as u64;
+    let numbers = [
+        (at::NODELAY, s.nodelay as u32), (at::NOCWND, s.nocwnd as u32), (at::STREAM, s.stream as u32),
+        (at::INPUT_CONV, s.input_conv as u32), (at::UPDATED, s.updated as u32), (at::DEAD, (s.state != 0) as u32),
+        (at::MTU, s.mtu as u32), (at::MSS, s.mss as u32), (at::PROBE_WAIT, s.probe_wait), (at::RCV_NXT, s.rcv_nxt),
+        (at::RCV_WND, s.rcv_wnd as u32), (at::LARGEST, s.largest as u32), (at::ACKS, s.acklist.len() as u32),
+        (at::WAITING, s.buf.len() as u32), (at::PROBE, s.probe), (at::CONV, s.conv), (at::SND_UNA, s.snd_una),
+        (at::SND_NXT, s.snd_nxt), (at::SND_WND, s.snd_wnd as u32), (at::RMT_WND, s.rmt_wnd as u32), (at::CWND, s.cwnd as u32),
+        (at::SSTHRESH, s.ssthresh as u32), (at::INCR_LOW, incr as u32), (at::INCR_HIGH, (incr >> 32) as u32),
+        (at::RX_SRTT, s.rx_srtt), (at::RX_RTTVAL, s.rx_rttval), (at::RX_RTO, s.rx_rto), (at::RX_MINRTO, s.rx_minrto),
+        (at::CURRENT, s.current), (at::INTERVAL, s.interval), (at::TS_FLUSH, s.ts_flush), (at::TS_PROBE, s.ts_probe),
+        (at::XMIT, s.xmit), (at::FASTRESEND, s.fastresend), (at::FASTLIMIT, s.fastlimit), (at::DEAD_LINK, s.dead_link),
+    ];
+    let mut words = [0; WORDS];
+    for (spot, value) in numbers.iter() {
+        spot.put(&mut words, *value);
+    }
+    words
 }
 
 /// Overwrites segments, and keeps the memory of their payloads.
@@ -253,12 +328,16 @@ impl Shape {
     }
 
     /// The random shape that this state is laid in.
-    fn of(s: &State, sizes: Sizes) -> Shape {
+    pub fn of(s: &State, sizes: Sizes) -> Shape {
+        Shape::random(&mut Random::new(Shape::seed(s)), s, sizes)
+    }
+
+    /// A number made of the state.
+    pub fn seed(s: &State) -> u64 {
         let lengths = [s.rcv_queue.len(), s.rcv_buf.len(), s.snd_buf.len(), s.snd_queue.len(), s.acklist.len()];
         let numbers = [s.rcv_nxt, s.snd_una, s.snd_nxt, s.current, s.xmit];
         let all = lengths.iter().map(|n| *n as u64).chain(numbers.iter().map(|n| *n as u64));
-        let seed = all.fold(0, |seed, n| Random::new(seed ^ n).next());
-        Shape::random(&mut Random::new(seed), s, sizes)
+        all.fold(0, |seed, n| Random::new(seed ^ n).next())
     }
 }
 
@@ -335,7 +414,15 @@ impl Memory {
     }
 
     pub fn set_number(&mut self, name: &str, value: u32) {
-        put_number(&mut self.words, name, value)
+        self.put(spot(name), value)
+    }
+
+    pub fn at(&self, spot: Spot) -> u32 {
+        spot.of(&self.words)
+    }
+
+    pub fn put(&mut self, spot: Spot, value: u32) {
+        spot.put(&mut self.words, value)
     }
 
     pub fn rcv_ring(&self) -> RcvRing {
@@ -357,19 +444,36 @@ impl Memory {
         &mut self.send.records[place]
     }
 
-    /// The places of the segments in flight, and of those that wait.
-    fn to_send(&self) -> (Vec<usize>, Vec<usize>) {
+    /// The places of the segments in flight.
+    fn flying(&self) -> impl Iterator<Item = usize> + '_ {
         let ring = self.snd_ring();
-        let live = |place: &usize| self.send.records[*place] != 0;
-        let (reach, end) = (ring.reach.min(ring.places.slots), ring.end().min(ring.places.slots));
-        let place = |i| ring.places.place(i);
-        ((0..reach).map(place).filter(live).collect(), (reach..end).map(place).collect())
+        let place = move |i| ring.places.place(i);
+        // were the port to leave numbers that no ring has, the places are still those of slots
+        (0..ring.reach.min(ring.places.slots)).map(place).filter(move |place| self.send.records[*place] != 0)
+    }
+
+    /// The places of those that wait.
+    fn unsent(&self) -> impl Iterator<Item = usize> + '_ {
+        let ring = self.snd_ring();
+        let slots = ring.places.slots;
+        (ring.reach.min(slots)..ring.end().min(slots)).map(move |i| ring.places.place(i))
+    }
+
+    fn row_at(&mut self, place: usize) -> &mut [u32] {
+        let slots = self.sizes().send;
+        &mut self.send.records[slots + place * ROW..][..ROW]
+    }
+
+    /// The indices of the receive ring at which segments are held.
+    fn held_indices(&self) -> impl Iterator<Item = usize> + '_ {
+        let ring = self.rcv_ring();
+        let slots = ring.places.slots;
+        (ring.queued.min(slots)..ring.end().min(slots)).filter(move |i| self.receive.records[ring.places.place(*i)] >= MARK)
     }
 
     /// How many segments are held.
     pub fn held(&self) -> usize {
-        let ring = self.rcv_ring();
-        (ring.queued..ring.end()).filter(|i| self.receive.records[ring.places.place(*i)] >= MARK).count()
+        self.held_indices().count()
     }
 
     // ---- laying
@@ -384,7 +488,7 @@ impl Memory {
             && s.snd_buf.len() + s.snd_queue.len() <= self.sizes().send
             && s.acklist.len() <= self.sizes().acks
             && s.buf.len() <= self.waiting.len()
-            && s.rcv_queue.iter().chain(&s.rcv_buf).chain(&s.snd_buf).chain(&s.snd_queue).all(|x| x.data.len() <= ROOM)
+            && s.rcv_queue.iter().chain(&s.rcv_buf).chain(&s.snd_buf).chain(&s.snd_queue).all(|x| x.len <= ROOM && x.len == x.data.len())
     }
 
     /// Lays the state, which must fit. Where its segments stand in their slots already, these stay, if that is wanted: so long runs
@@ -440,12 +544,11 @@ impl Memory {
         if self.send_fault().is_some() || ring.segments() != s.snd_buf.len() + s.snd_queue.len() || ring.flying > s.snd_buf.len() {
             return None;
         }
-        let (flying, waiting) = self.to_send();
-        let is = |(place, x): (&usize, &Segment)| {
-            let mark = self.send.records[*place];
-            mark == mark_of(x) && self.send.payload(*place, mark) == &x.data[..]
+        let is = |(place, x): (usize, &Segment)| {
+            let mark = self.send.records[place];
+            mark == mark_of(x) && self.send.payload(place, mark) == &x.data[..]
         };
-        if !flying.iter().chain(&waiting).zip(s.snd_buf.iter().chain(&s.snd_queue)).all(is) {
+        if !self.flying().chain(self.unsent()).zip(s.snd_buf.iter().chain(&s.snd_queue)).all(is) {
             return None;
         }
         ring.launch(s);
@@ -497,35 +600,54 @@ impl Memory {
         self.waiting[..s.buf.len()].copy_from_slice(&s.buf);
         self.lay_words(s);
         let rings = [
-            ("rcv_start", rcv.places.start), ("queued", rcv.queued), ("rcv_reach", rcv.reach), ("snd_start", snd.places.start),
-            ("snd_reach", snd.reach), ("flying", snd.flying), ("unsent", snd.unsent),
+            (at::RCV_START, rcv.places.start), (at::QUEUED, rcv.queued), (at::RCV_REACH, rcv.reach), (at::SND_START, snd.places.start),
+            (at::SND_REACH, snd.reach), (at::FLYING, snd.flying), (at::UNSENT, snd.unsent),
         ];
-        for (name, value) in rings.iter() {
-            self.set_number(name, *value as u32);
+        for (spot, value) in rings.iter() {
+            self.put(*spot, *value as u32);
         }
-        let (flying, waiting) = self.to_send();
-        for (place, x) in flying.iter().chain(&waiting).zip(s.snd_buf.iter().chain(&s.snd_queue)) {
-            self.send.records[snd.places.slots + place * ROW..][..ROW].copy_from_slice(&row_of(x));
+        self.lay_rows(s, snd);
+    }
+
+    /// Lays the numbers of the segments to send, whose marks stand.
+    fn lay_rows(&mut self, s: &State, snd: SndRing) {
+        let slots = snd.places.slots;
+        let (marks, rows) = self.send.records.split_at_mut(slots);
+        let flying = (0..snd.reach).map(|i| snd.places.place(i)).filter(|place| marks[*place] != 0);
+        let unsent = (snd.reach..snd.end()).map(|i| snd.places.place(i));
+        for (place, x) in flying.chain(unsent).zip(s.snd_buf.iter().chain(&s.snd_queue)) {
+            rows[place * ROW..][..ROW].copy_from_slice(&row_of(x));
         }
     }
 
     /// Lays the words, but for those of the rings.
     fn lay_words(&mut self, s: &State) {
-        self.words = vec![0; WORDS];
-        let incr = s.incr as u64;
-        let numbers = [
-            ("nodelay", s.nodelay as u32), ("nocwnd", s.nocwnd as u32), ("stream", s.stream as u32), ("input_conv", s.input_conv as u32),
-            ("updated", s.updated as u32), ("dead", (s.state != 0) as u32), ("mtu", s.mtu as u32), ("mss", s.mss as u32),
-            ("probe_wait", s.probe_wait), ("rcv_nxt", s.rcv_nxt), ("rcv_wnd", s.rcv_wnd as u32), ("largest", s.largest as u32),
-            ("acks", s.acklist.len() as u32), ("waiting", s.buf.len() as u32), ("probe", s.probe), ("conv", s.conv), ("snd_una", s.snd_una),
-            ("snd_nxt", s.snd_nxt), ("snd_wnd", s.snd_wnd as u32), ("rmt_wnd", s.rmt_wnd as u32), ("cwnd", s.cwnd as u32),
-            ("ssthresh", s.ssthresh as u32), ("incr_low", incr as u32), ("incr_high", (incr >> 32) as u32), ("rx_srtt", s.rx_srtt),
-            ("rx_rttval", s.rx_rttval), ("rx_rto", s.rx_rto), ("rx_minrto", s.rx_minrto), ("current", s.current), ("interval", s.interval),
-            ("ts_flush", s.ts_flush), ("ts_probe", s.ts_probe), ("xmit", s.xmit), ("fastresend", s.fastresend), ("fastlimit", s.fastlimit),
-            ("dead_link", s.dead_link),
-        ];
-        for (name, value) in numbers.iter() {
-            self.set_number(name, *value);
+        self.words.clear();
+        self.words.extend_from_slice(&words_of(s));
+    }
+
+    /// Sets one number of the block, as `Call::Tune` asks; a segment that is not there is left out of it.
+    pub fn tune(&mut self, what: Tuned, value: u64) {
+        let low = value as u32;
+        match what {
+            Tuned::Cwnd => self.put(at::CWND, value as u16 as u32),
+            Tuned::Ssthresh => self.put(at::SSTHRESH, value as u16 as u32),
+            Tuned::Incr => {
+                self.put(at::INCR_LOW, low);
+                self.put(at::INCR_HIGH, (value >> 32) as u32);
+            }
+            Tuned::RxRto => self.put(at::RX_RTO, low),
+            Tuned::Ahead => self.put(at::SND_NXT, self.at(at::SND_UNA).wrapping_add(low)),
+            Tuned::Rto(i) => self.tune_row(i, 5, low),
+            Tuned::Fastack(i) => self.tune_row(i, 6, low),
+            Tuned::Xmit(i) => self.tune_row(i, 7, low),
+        }
+    }
+
+    fn tune_row(&mut self, i: usize, column: usize, value: u32) {
+        let place = self.flying().nth(i);
+        if let Some(place) = place {
+            self.row_at(place)[column] = value;
         }
     }
 
@@ -545,48 +667,48 @@ impl Memory {
         self.read_words(s);
         self.read_received(s, whole);
         self.read_to_send(s, whole);
-        let acks = (self.number("acks") as usize).min(self.sizes().acks);
+        let acks = (self.at(at::ACKS) as usize).min(self.sizes().acks);
         s.acklist.clear();
         s.acklist.extend((0..acks).map(|i| (self.acks[2 * i], self.acks[2 * i + 1])));
         s.buf.clear();
-        s.buf.extend_from_slice(&self.waiting[..(self.number("waiting") as usize).min(self.waiting.len())]);
+        s.buf.extend_from_slice(&self.waiting[..(self.at(at::WAITING) as usize).min(self.waiting.len())]);
     }
 
     fn read_words(&self, s: &mut State) {
-        let w = |name: &str| self.number(name);
-        s.conv = w("conv");
-        s.mtu = w("mtu") as usize;
-        s.mss = w("mss") as usize;
-        s.state = -(w("dead") as i32);
-        s.snd_una = w("snd_una");
-        s.snd_nxt = w("snd_nxt");
-        s.rcv_nxt = w("rcv_nxt");
-        s.ssthresh = w("ssthresh") as u16;
-        s.rx_rttval = w("rx_rttval");
-        s.rx_srtt = w("rx_srtt");
-        s.rx_rto = w("rx_rto");
-        s.rx_minrto = w("rx_minrto");
-        s.snd_wnd = w("snd_wnd") as u16;
-        s.rcv_wnd = w("rcv_wnd") as u16;
-        s.rmt_wnd = w("rmt_wnd") as u16;
-        s.cwnd = w("cwnd") as u16;
-        s.probe = w("probe");
-        s.current = w("current");
-        s.interval = w("interval");
-        s.ts_flush = w("ts_flush");
-        s.xmit = w("xmit");
-        s.nodelay = w("nodelay") != 0;
-        s.updated = w("updated") != 0;
-        s.ts_probe = w("ts_probe");
-        s.probe_wait = w("probe_wait");
-        s.dead_link = w("dead_link");
-        s.incr = w("incr_low") as usize | (w("incr_high") as usize) << 32;
-        s.fastresend = w("fastresend");
-        s.fastlimit = w("fastlimit");
-        s.nocwnd = w("nocwnd") != 0;
-        s.stream = w("stream") != 0;
-        s.input_conv = w("input_conv") != 0;
-        s.largest = w("largest") as u16;
+        let w = |spot: Spot| self.at(spot);
+        s.conv = w(at::CONV);
+        s.mtu = w(at::MTU) as usize;
+        s.mss = w(at::MSS) as usize;
+        s.state = -(w(at::DEAD) as i32);
+        s.snd_una = w(at::SND_UNA);
+        s.snd_nxt = w(at::SND_NXT);
+        s.rcv_nxt = w(at::RCV_NXT);
+        s.ssthresh = w(at::SSTHRESH) as u16;
+        s.rx_rttval = w(at::RX_RTTVAL);
+        s.rx_srtt = w(at::RX_SRTT);
+        s.rx_rto = w(at::RX_RTO);
+        s.rx_minrto = w(at::RX_MINRTO);
+        s.snd_wnd = w(at::SND_WND) as u16;
+        s.rcv_wnd = w(at::RCV_WND) as u16;
+        s.rmt_wnd = w(at::RMT_WND) as u16;
+        s.cwnd = w(at::CWND) as u16;
+        s.probe = w(at::PROBE);
+        s.current = w(at::CURRENT);
+        s.interval = w(at::INTERVAL);
+        s.ts_flush = w(at::TS_FLUSH);
+        s.xmit = w(at::XMIT);
+        s.nodelay = w(at::NODELAY) != 0;
+        s.updated = w(at::UPDATED) != 0;
+        s.ts_probe = w(at::TS_PROBE);
+        s.probe_wait = w(at::PROBE_WAIT);
+        s.dead_link = w(at::DEAD_LINK);
+        s.incr = w(at::INCR_LOW) as usize | (w(at::INCR_HIGH) as usize) << 32;
+        s.fastresend = w(at::FASTRESEND);
+        s.fastlimit = w(at::FASTLIMIT);
+        s.nocwnd = w(at::NOCWND) != 0;
+        s.stream = w(at::STREAM) != 0;
+        s.input_conv = w(at::INPUT_CONV) != 0;
+        s.largest = w(at::LARGEST) as u16;
     }
 
     fn read_received(&self, s: &mut State, whole: bool) {
@@ -595,7 +717,8 @@ impl Memory {
         let at = |i: usize| {
             let place = ring.places.place(i);
             let word = self.receive.records[place];
-            let numbers = Segment { sn: first.wrapping_add(i as u32), frg: word as u8, ..Segment::default() };
+            let (sn, len) = (first.wrapping_add(i as u32), length_of(word / MARK));
+            let numbers = Segment { sn, frg: word as u8, len, ..Segment::default() };
             (word >= MARK, numbers, self.receive.payload(place, if whole { word / MARK } else { 0 }))
         };
         // were the port to leave numbers that no ring has, they would still be read, and told as a difference
@@ -606,13 +729,98 @@ impl Memory {
 
     fn read_to_send(&self, s: &mut State, whole: bool) {
         let slots = self.sizes().send;
-        let (flying, waiting) = self.to_send();
-        let at = |place: &usize, cmd: u8| {
-            let row = &self.send.records[slots + place * ROW..][..ROW];
-            (of_row(row, cmd), self.send.payload(*place, if whole { self.send.records[*place] } else { 0 }))
+        let at = |place: usize, cmd: u8| {
+            let (mark, row) = (self.send.records[place], &self.send.records[slots + place * ROW..][..ROW]);
+            (of_row(row, cmd, mark), self.send.payload(place, if whole { mark } else { 0 }))
         };
-        refill(&mut s.snd_buf, flying.iter().map(|place| at(place, PUSH)));
-        refill(&mut s.snd_queue, waiting.iter().map(|place| at(place, 0)));
+        refill(&mut s.snd_buf, self.flying().map(|place| at(place, PUSH)));
+        refill(&mut s.snd_queue, self.unsent().map(|place| at(place, 0)));
+    }
+
+    // ---- comparing
+
+    /// Whether the memory holds that state, but for the payloads and for what the port does not keep; of the lists those that are
+    /// touched are looked at.
+    pub fn agrees(&self, s: &State, touched: Touched) -> bool {
+        self.own_agree(s) && (!touched.received || self.received_agree(s)) && (!touched.to_send || self.to_send_agree(s))
+    }
+
+    /// Whether the block's own numbers, the lengths of its lists, the acks and the waiting bytes are those of the state.
+    fn own_agree(&self, s: &State) -> bool {
+        let (words, rings) = (words_of(s), at::RCV_START.word..at::UNSENT.word + 1);
+        let n = |spot: Spot| self.at(spot) as usize;
+        let (acks, waiting) = (s.acklist.len(), s.buf.len());
+        self.words.len() == WORDS
+            && self.words[..rings.start] == words[..rings.start]
+            && self.words[rings.end..] == words[rings.end..]
+            && (n(at::QUEUED), n(at::FLYING), n(at::UNSENT)) == (s.rcv_queue.len(), s.snd_buf.len(), s.snd_queue.len())
+            && acks <= self.sizes().acks
+            && self.acks.chunks(2).zip(&s.acklist).all(|(pair, ack)| pair == [ack.0, ack.1])
+            && waiting <= self.waiting.len()
+            && self.waiting[..waiting] == s.buf[..]
+    }
+
+    fn received_agree(&self, s: &State) -> bool {
+        let ring = self.rcv_ring();
+        if ring.end() > ring.places.slots {
+            return false;
+        }
+        let first = s.rcv_nxt.wrapping_sub(ring.queued as u32);
+        let is = |i: usize, x: &Segment| {
+            self.receive.records[ring.places.place(i)] == word_of(x) && x.sn == first.wrapping_add(i as u32)
+        };
+        let held = self.held_indices();
+        s.rcv_queue.iter().enumerate().all(|(i, x)| is(i, x))
+            && self.held_indices().count() == s.rcv_buf.len()
+            && held.zip(&s.rcv_buf).all(|(i, x)| is(i, x))
+    }
+
+    fn to_send_agree(&self, s: &State) -> bool {
+        let slots = self.sizes().send;
+        let is = |(place, x): (usize, &Segment)| {
+            self.send.records[place] == mark_of(x) && self.send.records[slots + place * ROW..][..ROW] == row_of(x)
+        };
+        self.flying().count() == s.snd_buf.len()
+            && self.flying().zip(&s.snd_buf).all(is)
+            && self.unsent().count() == s.snd_queue.len()
+            && self.unsent().zip(&s.snd_queue).all(is)
+    }
+
+    /// All payloads: queue and held, in flight and waiting.
+    pub fn payloads(&self) -> impl Iterator<Item = &[u8]> + '_ {
+        let ring = self.rcv_ring();
+        let received = (0..ring.queued.min(ring.places.slots)).chain(self.held_indices()).map(move |i| {
+            let place = ring.places.place(i);
+            self.receive.payload(place, self.receive.records[place] / MARK)
+        });
+        received.chain(self.flying().chain(self.unsent()).map(move |place| self.send.payload(place, self.send.records[place])))
+    }
+
+    /// The payload of the received segment with this number, in the queue or held.
+    pub fn stored(&self, sn: u32) -> Option<&[u8]> {
+        let ring = self.rcv_ring();
+        // where the queue begins, as a number
+        let first = self.at(at::RCV_NXT).wrapping_sub(ring.queued as u32);
+        let i = sn.wrapping_sub(first) as usize;
+        if i >= ring.end() || ring.end() > ring.places.slots {
+            return None;
+        }
+        let place = ring.places.place(i);
+        let word = self.receive.records[place];
+        if word < MARK {
+            return None;
+        }
+        Some(self.receive.payload(place, word / MARK))
+    }
+
+    /// The payload of a segment that waits to be sent, by its index in the queue.
+    pub fn waiting_payload(&self, i: usize) -> Option<&[u8]> {
+        let ring = self.snd_ring();
+        if i >= ring.unsent || ring.end() > ring.places.slots {
+            return None;
+        }
+        let place = ring.places.place(ring.reach + i);
+        Some(self.send.payload(place, self.send.records[place]))
     }
 
     // ---- what is well formed, and what is refused by 15 since it is not
@@ -627,16 +835,16 @@ impl Memory {
         if self.words.len() != WORDS || self.words[0] >= FLAGS {
             return Some("the words are no block");
         }
-        let n = |name: &str| self.number(name) as usize;
-        let (mtu, window, largest, wait) = (n("mtu"), n("rcv_wnd"), n("largest"), n("probe_wait"));
+        let n = |spot: Spot| self.at(spot) as usize;
+        let (mtu, window, largest, wait) = (n(at::MTU), n(at::RCV_WND), n(at::LARGEST), n(at::PROBE_WAIT));
         first(&[
-            ((50..=1500).contains(&mtu) && n("mss") == mtu.wrapping_sub(24), "mtu or mss"),
+            ((50..=1500).contains(&mtu) && n(at::MSS) == mtu.wrapping_sub(24), "mtu or mss"),
             (wait == 0 || (7000..=120_000).contains(&wait), "probe_wait"),
             (128 <= window && window <= largest && largest <= 512, "a receive window"),
-            (n("queued") <= largest && n("rcv_reach") <= largest && n("rcv_start") < 1024, "the receive ring's numbers"),
-            (n("snd_reach") + n("unsent") <= 1024 && n("snd_start") < 1024, "the send ring's numbers"),
-            (n("flying") <= n("snd_reach") && (n("snd_reach") == 0 || n("flying") > 0), "how many are in flight"),
-            (n("acks") <= 4096 && n("waiting") <= WAITING, "acks or waiting bytes"),
+            (n(at::QUEUED) <= largest && n(at::RCV_REACH) <= largest && n(at::RCV_START) < 1024, "the receive ring's numbers"),
+            (n(at::SND_REACH) + n(at::UNSENT) <= 1024 && n(at::SND_START) < 1024, "the send ring's numbers"),
+            (n(at::FLYING) <= n(at::SND_REACH) && (n(at::SND_REACH) == 0 || n(at::FLYING) > 0), "how many are in flight"),
+            (n(at::ACKS) <= 4096 && n(at::WAITING) <= WAITING, "acks or waiting bytes"),
         ])
     }
 
@@ -652,7 +860,7 @@ impl Memory {
         }
         let marks = |from: usize, to: usize, low: u32| (from..to).all(|i| (low..=MOST).contains(&(records[ring.places.place(i)] / MARK)));
         first(&[
-            (ring.places.start < slots && 2 * self.number("largest") as usize <= slots, "the receive ring beside its slots"),
+            (ring.places.start < slots && 2 * self.at(at::LARGEST) as usize <= slots, "the receive ring beside its slots"),
             (marks(0, ring.queued, 1), "a mark in the queue"),
             (marks(ring.queued, ring.end(), 0), "a mark in the receive ring's reach"),
         ])
@@ -683,7 +891,7 @@ impl Memory {
     fn ack_fault(&self) -> Option<&'static str> {
         first(&[
             (self.acks.len() % 2 == 0 && (128..=4096).contains(&(self.acks.len() / 2)), "the size of the ack list"),
-            (self.number("acks") as usize <= self.acks.len() / 2, "more acks than the list holds"),
+            (self.at(at::ACKS) as usize <= self.acks.len() / 2, "more acks than the list holds"),
             (self.waiting.len() == WAITING, "the size of the waiting bytes"),
         ])
     }

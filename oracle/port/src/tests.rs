@@ -3,12 +3,13 @@
 //!     sh -c 'here=$PWD/oracle; . oracle/lib.sh; need_setup; cargo_in port test --release'
 
 use crate::memory::{most, number_of, Memory, Shape, MARK, MOST, NUMBERS, ROOM, ROW, WORDS};
+use crate::watch::Shadow;
 use driver::call::{Call, Fill, Header, Piece, Sizes, PUSH};
 use driver::generator::Generator;
 use driver::random::Random;
 use driver::side::{Outcome, Side};
 use driver::Judge;
-use state::State;
+use state::{State, Touched};
 
 /// Has the judge make random calls; `see` hears the state before and after each, and the call.
 fn over_states(sequences: u64, mut see: impl FnMut(&State, &Call, &State, Sizes)) {
@@ -33,6 +34,11 @@ fn holds(m: &Memory, s: &State, read: &mut State) {
     m.read(read);
     assert_eq!(wanted.differences(read), []);
     assert!(wanted == *read);
+    assert!(m.agrees(s, Touched::ALL) && m.payloads().eq(payloads(s)));
+}
+
+fn payloads(s: &State) -> impl Iterator<Item = &[u8]> + '_ {
+    s.rcv_queue.iter().chain(&s.rcv_buf).chain(&s.snd_buf).chain(&s.snd_queue).map(|x| &x.data[..])
 }
 
 /// Other words, numbers and bytes at every place that is not in use, in the rows of gaps and past every payload.
@@ -205,6 +211,166 @@ fn payloads_left_out() {
     });
 }
 
+/// A block with all kinds of segments, acks and waiting bytes.
+fn rich(sizes: Sizes) -> State {
+    let (mut judge, mut out, mut s) = (Judge::default(), Outcome::new(), State::default());
+    judge.apply(&Call::Start { conv: 1, stream: false, rcv: 0, snd: 0, sizes }, &mut out);
+    let fill = Fill { len: 5, seed: 1 };
+    let head = Header { conv: 1, cmd: PUSH, frg: 0, wnd: 128, ts: 0, sn: 0, una: 0, len: None };
+    let push = |sn: u32| Call::Input(vec![Piece::Segment(Header { sn, ..head }, fill)]);
+    let mut calls = vec![Call::SetNodelay(true, 10, 0, true), Call::Update(10)];
+    calls.extend(vec![Call::Send(fill); 4]);
+    calls.push(Call::Flush);
+    calls.extend(vec![Call::Send(fill); 2]);
+    calls.extend([0, 1].iter().map(|sn| push(*sn)));
+    calls.push(Call::FlushAck);
+    calls.push(push(3));
+    calls.iter().for_each(|call| judge.apply(call, &mut out));
+    judge.read(&mut s);
+    s
+}
+
+/// The comparison is blind to nothing: each number of the memory that a state tells of, changed by itself, is told.
+#[test]
+fn every_number_counts() {
+    let sizes = Sizes { receive: 256, send: 128, acks: 128 };
+    let (mut r, s) = (Random::new(5), rich(sizes));
+    // where the rings stand is the port's own affair
+    let free = ["rcv_start", "rcv_reach", "snd_start", "snd_reach"];
+    for _ in 0..20 {
+        let mut m = Memory::new(sizes);
+        m.lay_as(&s, &Shape::random(&mut r, &s, sizes));
+        let (rcv, snd) = (m.rcv_ring(), m.snd_ring());
+        let differs = |what: &str, spoil: &mut dyn FnMut(&mut Memory)| {
+            let mut bad = m.clone();
+            spoil(&mut bad);
+            assert!(!bad.agrees(&s, Touched::ALL) || !bad.payloads().eq(payloads(&s)), "{} is not looked at", what);
+        };
+        for (name, _) in NUMBERS.iter().filter(|n| !free.contains(&n.0)) {
+            differs(name, &mut |m| m.set_number(name, m.number(name) ^ 1));
+        }
+        for i in (0..rcv.end()).filter(|i| m.receive.records[rcv.places.place(*i)] >= MARK) {
+            differs("a frg", &mut |m| *m.received(i) ^= 1);
+            differs("a length received", &mut |m| *m.received(i) += MARK);
+            differs("a payload received", &mut |m| m.receive.room[rcv.places.place(i) * ROOM + 4] ^= 1);
+        }
+        for i in (0..snd.end()).filter(|i| m.send.records[snd.places.place(*i)] > 0) {
+            let place = snd.places.place(i);
+            differs("a length to send", &mut |m| *m.mark(i) += 1);
+            differs("a payload to send", &mut |m| m.send.room[place * ROOM + 4] ^= 1);
+            (0..ROW).for_each(|n| differs("a number to send", &mut |m| m.send.records[128 + place * ROW + n] ^= 1));
+        }
+        (0..2 * s.acklist.len()).for_each(|i| differs("an ack", &mut |m| m.acks[i] ^= 1));
+        (0..s.buf.len()).for_each(|i| differs("a waiting byte", &mut |m| m.waiting[i] ^= 1));
+    }
+}
+
+/// And each field of a state, changed by itself.
+#[test]
+fn every_field_counts() {
+    let sizes = Sizes { receive: 256, send: 128, acks: 128 };
+    let s = rich(sizes);
+    let mut m = Memory::new(sizes);
+    m.lay_as(&s, &Shape::plain(&s));
+    assert!(m.agrees(&s, Touched::ALL));
+    macro_rules! counts {
+        ($($field:ident)*) => { $( {
+            let mut other = s.clone();
+            other.$field ^= 1;
+            assert!(!m.agrees(&other, Touched { received: false, to_send: false }), stringify!($field));
+        } )* };
+    }
+    counts!(
+        conv mtu mss snd_una snd_nxt rcv_nxt ssthresh rx_rttval rx_srtt rx_rto rx_minrto snd_wnd rcv_wnd rmt_wnd cwnd probe current interval
+        ts_flush xmit ts_probe probe_wait dead_link incr fastresend fastlimit largest
+    );
+    let flips: [fn(&mut State); 12] = [
+        |s| s.state = -1,
+        |s| s.nodelay = !s.nodelay,
+        |s| s.updated = !s.updated,
+        |s| s.nocwnd = !s.nocwnd,
+        |s| s.stream = !s.stream,
+        |s| s.input_conv = !s.input_conv,
+        |s| s.incr += 1 << 32,
+        |s| s.acklist.truncate(0),
+        |s| s.buf.truncate(23),
+        |s| s.snd_queue.truncate(1),
+        |s| s.rcv_queue.truncate(1),
+        |s| s.snd_buf.truncate(1),
+    ];
+    for (i, flip) in flips.iter().enumerate() {
+        let mut other = s.clone();
+        flip(&mut other);
+        assert!(!m.agrees(&other, Touched { received: false, to_send: false }), "flip {}", i);
+    }
+    let mut other = s.clone();
+    other.rcv_buf.clear();
+    assert!(!m.agrees(&other, Touched::ALL));
+}
+
+/// What no call may write is told after any call that wrote it: at once, or when all is looked over.
+#[test]
+fn writes_astray_are_found() {
+    let sizes = Sizes { receive: 256, send: 128, acks: 128 };
+    let s = rich(sizes);
+    let shape = Shape { rcv_start: 250, snd_start: 126, gaps: vec![0, 2, 0, 1], ..Shape::plain(&s) };
+    let mut m = Memory::new(sizes);
+    m.lay_as(&s, &shape);
+    let (rcv, snd, row) = (m.rcv_ring().places, m.snd_ring().places, |place: usize, n: usize| 128 + place * ROW + n);
+    let spoils: [&dyn Fn(&mut Memory); 12] = [
+        &|m| m.receive.records[rcv.place(100)] ^= 1,
+        &|m| m.receive.records[rcv.place(0)] ^= 1,
+        &|m| m.receive.room[rcv.place(100) * ROOM] ^= 1,
+        &|m| m.receive.room[rcv.place(1) * ROOM] ^= 1,
+        &|m| m.receive.room[rcv.place(1) * ROOM + 5] ^= 1,
+        // of a slot that is not in use, of a gap, of a segment in flight, of one that waits
+        &|m| m.send.records[row(snd.place(100), 3)] ^= 1,
+        &|m| m.send.records[row(snd.place(2), 7)] ^= 1,
+        &|m| m.send.records[row(snd.place(0), 0)] ^= 1,
+        &|m| m.send.records[row(snd.place(8), 3)] ^= 1,
+        &|m| m.send.room[snd.place(0) * ROOM] ^= 1,
+        &|m| m.acks[2] ^= 1,
+        &|m| m.waiting[1000] ^= 1,
+    ];
+    let calls = [
+        Call::Input(vec![]), Call::Send(Fill { len: 1, seed: 1 }), Call::Recv(9), Call::Peeksize, Call::MoveBuf, Call::SetWndsize(0, 0),
+        Call::SetMtu(100), Call::Flush, Call::Update(9), Call::FlushAck, Call::Check(9),
+    ];
+    let found = |spoil: &dyn Fn(&mut Memory), call: &Call| {
+        let (mut now, mut shadow, out) = (m.clone(), Shadow::of(&m), Outcome::new());
+        spoil(&mut now);
+        shadow.follow(&now, call, &out).or_else(|| shadow.look_over(&now, true))
+    };
+    for call in calls.iter() {
+        assert_eq!(found(&|_| (), call), None);
+        for (i, spoil) in spoils.iter().enumerate() {
+            assert!(found(*spoil, call).is_some(), "spoil {} by {}", i, call);
+        }
+    }
+}
+
+/// Payloads by number and by index are those of the state.
+#[test]
+fn payloads_found() {
+    let mut r = Random::new(6);
+    let mut m = Memory::new(Sizes { receive: 256, send: 128, acks: 128 });
+    over_states(40, |_, _, s, sizes| {
+        if m.sizes() != sizes {
+            m = Memory::new(sizes);
+        }
+        m.lay_as(s, &Shape::random(&mut r, s, sizes));
+        for x in s.rcv_queue.iter().chain(&s.rcv_buf) {
+            assert_eq!(m.stored(x.sn), Some(&x.data[..]));
+        }
+        let before = s.rcv_nxt.wrapping_sub(1 + s.rcv_queue.len() as u32);
+        assert_eq!((m.stored(before), m.stored(s.rcv_nxt.wrapping_add(1 << 31))), (None, None));
+        for (i, x) in s.snd_queue.iter().enumerate() {
+            assert_eq!(m.waiting_payload(i), Some(&x.data[..]));
+        }
+        assert_eq!(m.waiting_payload(s.snd_queue.len()), None);
+    });
+}
+
 #[test]
 fn numbers_share_words_without_touching() {
     let mut all = vec![0; WORDS];
@@ -233,18 +399,7 @@ fn numbers_share_words_without_touching() {
 #[test]
 fn damage_is_found() {
     let sizes = Sizes { receive: 256, send: 128, acks: 128 };
-    let (mut r, mut judge, mut out) = (Random::new(4), Judge::default(), Outcome::new());
-    judge.apply(&Call::Start { conv: 1, stream: false, rcv: 0, snd: 0, sizes }, &mut out);
-    let fill = Fill { len: 5, seed: 1 };
-    let head = Header { conv: 1, cmd: PUSH, frg: 0, wnd: 128, ts: 0, sn: 0, una: 0, len: None };
-    let mut calls = vec![Call::SetNodelay(true, 10, 0, true), Call::Update(10)];
-    calls.extend(vec![Call::Send(fill); 4]);
-    calls.push(Call::Flush);
-    calls.extend(vec![Call::Send(fill); 2]);
-    calls.extend([0, 1, 3].iter().map(|sn| Call::Input(vec![Piece::Segment(Header { sn: *sn, ..head }, fill)])));
-    calls.iter().for_each(|call| judge.apply(call, &mut out));
-    let mut s = State::default();
-    judge.read(&mut s);
+    let (mut r, s) = (Random::new(4), rich(sizes));
     // 2 queued and one held behind a hole, 4 in flight, 2 waiting
     let spoils: [fn(&mut Memory); 13] = [
         |m| *m.received(1) = 0,

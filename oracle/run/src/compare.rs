@@ -1,8 +1,9 @@
 //! oracle/compare: holds the judge and another side to the same calls. The script of that name has the usage.
 
 use driver::call::{parse, Call, LEAVES, NAMES};
+use driver::ends;
 use driver::generator::PROFILES;
-use driver::run::{reach, replay, run, Finding, Plan, Replay};
+use driver::run::{reach, replay, run, Finding, Plan, Replay, Report};
 use driver::shrink::shrink;
 use driver::side::Side;
 use driver::{rust_side, Judge};
@@ -29,6 +30,8 @@ struct Wanted {
     rows: bool,
     departures: bool,
     reach: bool,
+    /// Two blocks on a line in place of one.
+    pairs: bool,
     /// The other side is the copy of the Rust alone.
     copy: bool,
 }
@@ -42,6 +45,7 @@ fn arguments() -> Wanted {
         rows: false,
         departures: false,
         reach: false,
+        pairs: false,
         copy: false,
     };
     let mut words = Vec::new();
@@ -55,6 +59,7 @@ fn arguments() -> Wanted {
             "--rows" => wanted.rows = true,
             "--departures" => wanted.departures = true,
             "--reach" => wanted.reach = true,
+            "--pairs" => wanted.pairs = true,
             "--progress" => wanted.progress = true,
             w if w.starts_with('-') => usage(&format!("unknown option '{}'", w)),
             _ => words.push(word),
@@ -71,6 +76,9 @@ fn arguments() -> Wanted {
         if !NAMES.contains(&word.as_str()) && !LEAVES.contains(&word.as_str()) {
             usage(&format!("'{}' is no call", word));
         }
+    }
+    if wanted.pairs && (!words.is_empty() || wanted.plan.profile.is_some()) {
+        usage("--pairs takes SEED and COUNT alone, since pairs need every call");
     }
     wanted.plan.calls = words;
     wanted
@@ -89,10 +97,12 @@ fn profile(word: Option<String>) -> driver::generator::Profile {
 }
 
 fn sides(wanted: &Wanted) -> String {
-    if wanted.copy || exports::all().is_empty() {
+    if wanted.copy || !exports::HAS_BLOCK {
         return "a copy of the Rust".to_string();
     }
-    format!("the port for {}; a copy of the Rust for the rest", exports::all().join(", "))
+    let lacks: Vec<&str> = exports::FLUSHES.iter().copied().filter(|name| !exports::has(name)).collect();
+    let rest = if lacks.is_empty() { String::new() } else { format!("; a copy of the Rust for {}", lacks.join(", ")) };
+    format!("the port for {}{}", exports::all().join(", "), rest)
 }
 
 /// The calls of a script, each with its line.
@@ -109,9 +119,12 @@ fn read_script(path: &str) -> Vec<(usize, Call)> {
     calls
 }
 
-/// The other side; a script is short, and so watched in all.
-fn other(wanted: &Wanted, script: bool) -> Box<dyn Side> {
-    Box::new(Joined::new(Copy::default(), !wanted.copy, script))
+/// The other side.
+fn other(wanted: &Wanted) -> Box<dyn Side> {
+    if wanted.copy || !exports::HAS_BLOCK {
+        return Box::new(Copy::default());
+    }
+    Box::new(Joined::new(Copy::default()))
 }
 
 /// The finding as a script that `--replay` takes.
@@ -147,7 +160,7 @@ fn main() {
     }
     let (calls, finding) = match &script {
         Some((path, script)) => replayed(&wanted, path, script),
-        None => search(&wanted),
+        None => search(&wanted, &mut text),
     };
     if let Some(finding) = &finding {
         if !wanted.brief {
@@ -174,7 +187,7 @@ fn replayed(wanted: &Wanted, path: &str, script: &[(usize, Call)]) -> (u64, Opti
         Some(Call::Start { .. }) => {}
         _ => usage(&format!("{}: a script begins with 'new'", path)),
     }
-    match replay(&mut Judge::default(), &mut *other(wanted, true), &calls, &wanted.plan.calls) {
+    match replay(&mut Judge::default(), &mut *other(wanted), &calls, &wanted.plan.calls) {
         Replay::Same(count) => (count, None),
         Replay::Differs(count, finding) => (count, Some(finding)),
         Replay::Leaves(i, why) => usage(&format!("{}:{}: leaves the domain of equality: {}", path, script[i].0, why)),
@@ -189,7 +202,22 @@ fn table((bad, lines): (usize, Vec<String>)) -> ! {
     exit((bad > 0) as i32)
 }
 
-fn search(wanted: &Wanted) -> (u64, Option<Finding>) {
+/// Two blocks, each on both sides, joined by a line.
+fn pairs(wanted: &Wanted, progress: &mut dyn FnMut(u64), text: &mut String) -> Report {
+    let (mut judges, mut others) = ([Judge::default(), Judge::default()], [other(wanted), other(wanted)]);
+    let ([a, b], [c, d]) = (&mut judges, &mut others);
+    let (report, done) = ends::run(&mut [[a, &mut **c], [b, &mut **d]], &wanted.plan, progress);
+    if !wanted.brief {
+        text.push_str(&format!(
+            "# {} pairs: {} datagrams put out, {} lost, {} repeated, {} arrived; {} messages read\n",
+            done.pairs, done.put_out, done.lost, done.repeated, done.arrived, done.messages
+        ));
+    }
+    report
+}
+
+/// Runs the plan; what is found is made shorter.
+fn search(wanted: &Wanted, text: &mut String) -> (u64, Option<Finding>) {
     let began = Instant::now();
     let terminal = wanted.progress;
     let mut told = 0;
@@ -201,7 +229,11 @@ fn search(wanted: &Wanted) -> (u64, Option<Finding>) {
             eprint!("\r{} of {} calls, {} s ", calls, count, seconds);
         }
     };
-    let report = run(&mut Judge::default(), &mut *other(wanted, false), &wanted.plan, &mut progress);
+    let report = if wanted.pairs {
+        pairs(wanted, &mut progress, text)
+    } else {
+        run(&mut Judge::default(), &mut *other(wanted), &wanted.plan, &mut progress)
+    };
     if terminal && told > 0 {
         eprintln!();
     }
@@ -214,7 +246,7 @@ fn search(wanted: &Wanted) -> (u64, Option<Finding>) {
                 eprintln!("a difference after {} calls; looking for the shortest sequence that shows it", report.calls);
             }
             let calls = &wanted.plan.calls;
-            let mut shows = |script: &[Call]| match replay(&mut Judge::default(), &mut *other(wanted, true), script, calls) {
+            let mut shows = |script: &[Call]| match replay(&mut Judge::default(), &mut *other(wanted), script, calls) {
                 Replay::Differs(_, finding) => Some(finding),
                 _ => None,
             };

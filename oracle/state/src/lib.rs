@@ -1,6 +1,7 @@
 //! The whole of a control block as plain values: what two sides are compared by, and what is laid from one into another.
 
-/// A segment with every number that the Rust keeps of it.
+/// A segment with every number that the Rust keeps of it, and the length of its payload. Where a state is read without the payloads,
+/// `data` is empty, whatever `len` is.
 #[derive(Clone, PartialEq, Eq, Debug, Default)]
 pub struct Segment {
     pub conv: u32,
@@ -14,6 +15,7 @@ pub struct Segment {
     pub rto: u32,
     pub fastack: u32,
     pub xmit: u32,
+    pub len: usize,
     pub data: Vec<u8>,
 }
 
@@ -62,14 +64,36 @@ pub struct State {
 }
 
 impl Segment {
+    /// A segment with this payload, and no other number.
+    pub fn holding(data: Vec<u8>) -> Segment {
+        Segment { len: data.len(), data, ..Segment::default() }
+    }
+
     /// Overwrites this segment with another's numbers and payload, keeping the memory.
     pub fn set(&mut self, numbers: Segment, data: &[u8]) {
+        self.set_numbers(numbers);
+        self.data.extend_from_slice(data);
+    }
+
+    /// Overwrites its numbers, and empties its payload.
+    #[inline]
+    pub fn set_numbers(&mut self, numbers: Segment) {
         let mut kept = std::mem::take(&mut self.data);
         kept.clear();
-        kept.extend_from_slice(data);
         *self = numbers;
         self.data = kept;
     }
+}
+
+/// Which lists of segments a call can change: those of the receive side, those of the sending side.
+#[derive(Clone, Copy, PartialEq, Eq, Debug)]
+pub struct Touched {
+    pub received: bool,
+    pub to_send: bool,
+}
+
+impl Touched {
+    pub const ALL: Touched = Touched { received: true, to_send: true };
 }
 
 /// What a state is called where it differs from another.

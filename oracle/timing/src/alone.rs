@@ -44,7 +44,7 @@ fn lent(used: usize) -> Memory {
     }
     let mut s = State::default();
     m.read(&mut s);
-    let segment = |sn| Segment { sn, data: vec![7; PAYLOAD], ..Segment::default() };
+    let segment = |sn| Segment { sn, ..Segment::holding(vec![7; PAYLOAD]) };
     s.largest = 512;
     s.rcv_wnd = 512;
     s.rcv_nxt = used as u32;

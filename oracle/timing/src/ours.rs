@@ -1,12 +1,14 @@
 //! The port as a side: a block and the memory lent to it. Each call that comes gets its body here and its name in `has_call`, and
 //! the rows that need no other call then time it. A flush that a row is prepared by, and that is not timed, is made by the Rust while
 //! the port has none: on a block that takes the state over from the lent memory, and gives it back. Only numbers go there and back,
-//! since a flush leaves payloads, so that those find the caches as the row's own calls left them.
+//! since a flush leaves payloads, so that those find the caches as the row's own calls left them. What the port's own calls put out
+//! goes to bytes and lengths that are lent once, enough for any flush of the block.
 
 use crate::side::{give_up, Call, Side, Sizes};
 use kcp_judge::{inside, Kcp, KcpResult};
 use port::exports;
 use port::memory::Memory;
+use port::out::Out;
 use state::State;
 use std::io;
 
@@ -14,11 +16,21 @@ pub struct Ours {
     memory: Memory,
     copy: Kcp<io::Sink>,
     s: State,
+    out: Out,
+    datagrams: usize,
+    bytes: usize,
 }
 
 /// The memory lent for this window, with so many slots to receive and to send.
 fn lent(window: u16, slots: [usize; 2]) -> Memory {
     Memory::new(driver::call::Sizes { receive: slots[0], send: slots[1], acks: (window as usize).max(128) })
+}
+
+/// Bytes and lengths for any flush of a block with this memory: each piece in a datagram of its own, each segment as long as may be.
+fn room_for(memory: &Memory) -> Out {
+    let sizes = memory.sizes();
+    let pieces = sizes.acks + 2 + sizes.send;
+    Out::new(1500 * (1 + sizes.send) + 24 * pieces, 1 + pieces)
 }
 
 #[inline]
@@ -46,6 +58,14 @@ impl Ours {
         }
         self.memory.lay_numbers(&self.s);
     }
+
+    /// Counts what a call of the port has put out.
+    #[inline]
+    fn count(&mut self) {
+        let lengths = &self.out.lengths[..self.out.datagrams];
+        self.datagrams += lengths.len();
+        self.bytes += lengths.iter().map(|n| *n as usize).sum::<usize>();
+    }
 }
 
 // No call is inlined into a row, as the Rust's are not.
@@ -58,7 +78,9 @@ impl Side for Ours {
             Call::Input => "input",
             Call::Send => "send",
             Call::Recv => "recv",
-            Call::Flush | Call::Update | Call::Check => return false,
+            Call::Flush => "flush",
+            Call::Update => "update",
+            Call::Check => "check",
         };
         exports::has(name)
     }
@@ -66,7 +88,8 @@ impl Side for Ours {
     fn new(conv: u32, window: u16, slots: [usize; 2]) -> Ours {
         let mut memory = lent(window, slots);
         done("new", exports::new(&mut memory, conv, false));
-        Ours { memory, copy: Kcp::new(conv, io::sink()), s: State::default() }
+        let out = room_for(&memory);
+        Ours { memory, copy: Kcp::new(conv, io::sink()), s: State::default(), out, datagrams: 0, bytes: 0 }
     }
 
     fn set_nodelay(&mut self, nodelay: bool, interval: i32, resend: i32, nc: bool) {
@@ -101,23 +124,53 @@ impl Side for Ours {
         length
     }
 
+    #[inline(never)]
     fn flush(&mut self) {
-        self.made(|block| block.flush())
+        if !exports::HAS_FLUSH {
+            return self.made(|block| block.flush());
+        }
+        done("flush", exports::flush(&mut self.memory, &mut self.out));
+        self.count()
     }
 
+    #[inline(never)]
     fn update(&mut self, now: u32) {
-        self.made(|block| block.update(now))
+        if !exports::HAS_UPDATE {
+            return self.made(|block| block.update(now));
+        }
+        done("update", exports::update(&mut self.memory, now, &mut self.out));
+        self.count()
     }
 
-    fn check(&mut self, _now: u32) -> u32 {
-        lacks("check")
+    #[inline(never)]
+    fn check(&mut self, now: u32) -> u32 {
+        if !exports::HAS_CHECK {
+            lacks("check");
+        }
+        let mut wait = 0;
+        done("check", exports::check(&self.memory, now, &mut wait));
+        wait
     }
 
-    fn update_to(&mut self, _now: u32, _each: &mut dyn FnMut(&[u8])) {
-        lacks("update")
+    #[inline(never)]
+    fn update_to(&mut self, now: u32, each: &mut dyn FnMut(&[u8])) {
+        if !exports::HAS_UPDATE {
+            lacks("update");
+        }
+        done("update", exports::update(&mut self.memory, now, &mut self.out));
+        self.count();
+        let mut rest = &self.out.bytes[..];
+        for length in &self.out.lengths[..self.out.datagrams] {
+            let (datagram, behind) = rest.split_at(*length as usize);
+            each(datagram);
+            rest = behind;
+        }
     }
 
-    fn forget(&mut self) {}
+    fn forget(&mut self) {
+        self.datagrams = 0;
+        self.bytes = 0;
+    }
 
     fn forget_acks(&mut self) {
         self.memory.set_number("acks", 0)
@@ -131,8 +184,8 @@ impl Side for Ours {
             held: self.memory.held(),
             readable: count("queued"),
             acks: count("acks"),
-            datagrams: 0,
-            bytes: 0,
+            datagrams: self.datagrams,
+            bytes: self.bytes,
         }
     }
 

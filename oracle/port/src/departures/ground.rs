@@ -2,6 +2,7 @@
 
 use crate::exports;
 use crate::memory::{Memory, Shape};
+use crate::watch::watched;
 use driver::call::{datagram, Call, Fill, Header, Piece, Sizes, ACK, PUSH};
 use driver::random::Random;
 use driver::side::{Outcome, Side};
@@ -176,7 +177,7 @@ impl Both {
         let (mut ours, mut theirs) = (Outcome::new(), Outcome::new());
         self.judge.apply(call, &mut theirs);
         if exports::has(call.name()) {
-            exports::apply(&mut self.m, call, true, &mut ours);
+            watched(&mut self.m, call, &mut ours);
             same(&format!("what {} shows", call), (ours.answer, ours.buffer, ours.stray), (theirs.answer, theirs.buffer, None))?;
         } else {
             self.m.lay(&state(&self.judge), true);
