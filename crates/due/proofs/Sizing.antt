@@ -1,9 +1,9 @@
 -- The size pass: one place, a run of places, and the two runs of a ring's indices. Assumes nothing.
-use Prim.Native.Nat.{ℕ, _+_, _-_, _*_, _/_, _≤_, _<_}
+use Prim.Native.Nat.{ℕ, _+_, _-_, _/_, _≤_, _<_}
 use native.Mathlib.Omega.{arith}
 use mathlib.Core.Path.{_≡_, refl, sym, ap, _∙_}
 use mathlib.Core.Bool.{Bool, true, false, not}
-use mathlib.Core.List.{List, [], _∷_, _++_, map}
+use mathlib.Core.List.{List, [], _∷_, _++_}
 use lib.ListN.{length, getD}
 use borrow.Author.Tests.{not-true, not-false}
 use Rattle.serial.specs.Branch.{pick-true, pick-false}
@@ -25,7 +25,7 @@ use Rattle.packing.specs.Packer.{sized}
 use Rattle.packing.proofs.Turns.{sized-none, sized-append, sized-sum, sized-count, cuts-few}
 use Rattle.flight.specs.declared.Runs.{Runs}
 use Rattle.flight.specs.Places.{placesOf, runOf, Each, Covers}
-use Rattle.flight.specs.Memory.{recordIn, markIn, goesAt, sizeIn, sizeAt, sizesOver, freshSizes}
+use Rattle.flight.specs.Memory.{recordIn, goesAt, sizeIn, sizeAt, sizesOver, freshSizes}
 use Rattle.flight.proofs.Places.{each-append, places-each, run-next, run-end, run-all}
 use Rattle.flight.proofs.Steps.{mark-at}
 use Rattle.flight.proofs.Out.{goes-gap, goes-idle, goes-live, sizes-first, sizes-none, sizes-append}

@@ -8,12 +8,11 @@ use Rattle.serial.specs.Branch.{pick}
 use Rattle.wire.specs.Header.{headerBytes}
 use Rattle.ring.specs.Records.{put, part}
 use Rattle.snd_ring.specs.Store.{Store, store}
-use Rattle.flushing.specs.declared.due.Tally.{Tally}
 use Rattle.flushing.specs.Due.{resendsFast, dueOf, sentAs, flownBy, dies, withSent}
 use Rattle.flushing.specs.Pack.{flat, sumOf, datagramSize, goesSize, staysSize, packSizes}
 use Rattle.packing.specs.Packer.{sized}
 use Rattle.flight.specs.Memory.{recordIn, renewedAt, flownAt, flownOver, talliedAt, tallyOver, goesAt, pieceAt, piecesOver}
-use Rattle.due.specs.Pass.{Pass, pass, passOver}
+use Rattle.due.specs.Pass.{pass, passOver}
 
 -- one slot, with a segment of one byte that was never sent, and one with a gap
 two : List ℕ → Store

@@ -9,7 +9,6 @@ ghost use Rattle.ring.specs.Records.{put, partSlot};
 ghost use Rattle.snd_ring.specs.Store.{storeOf, Sound};
 ghost use Rattle.wire.specs.Header.{headerBytes};
 ghost use Rattle.flushing.specs.Due.{dueOf, goesOut};
-ghost use Rattle.flushing.specs.Pieces.{pushHead};
 ghost use Rattle.packing.specs.Packer.{sized};
 ghost use Rattle.flight.specs.Places.{runOf, Each};
 ghost use Rattle.flight.specs.Memory.{recordIn, flightPlaces, waitingPlaces, sizeAt, sizesOver, freshSizes, piecesOver};

@@ -1,16 +1,15 @@
 -- What goes out of the memory, and what is counted and waited for, is what the rules say of the segments seen there. Each place is visited once, so that
 -- what the walk of a flush reads is what stood there before it. Assumes nothing.
-use Prim.Native.Nat.{ℕ, zero, suc, _+_, _-_, _*_, _≤_, _<_}
+use Prim.Native.Nat.{ℕ, _+_, _-_, _*_, _≤_, _<_}
 use native.Mathlib.Omega.{arith}
 use mathlib.Core.Path.{_≡_, refl, sym, ap, _∙_}
 use mathlib.Core.Bool.{Bool, true, false, not, _&&_}
 use mathlib.Core.List.{List, [], _∷_, _++_, map, append-assoc}
-use lib.ListN.{length, getD, take}
+use lib.ListN.{length, take}
 use borrow.Author.Tests.{eq-eqb, ne-eqb}
 use Rattle.serial.specs.Branch.{pick, pick-true, pick-false}
 use Rattle.serial.specs.Wrap.{add32}
-use Rattle.ring.proofs.Rows.{part-length, partSlot-number}
-use Rattle.ring.proofs.Sequences.{map-append}
+use Rattle.ring.proofs.Rows.{part-length}
 use Rattle.snd_ring.specs.Store.{Store, cell, Sized, Sound}
 use Rattle.snd_ring.proofs.Marks.{by-live}
 use Rattle.snd_ring.proofs.Views.{segmentAt, in-room}
@@ -24,10 +23,10 @@ use Rattle.flushing.specs.Due.{dueOf, flownBy, goesOut, withSent}
 use Rattle.flushing.specs.Pieces.{Piece, pieceBytes, pieceSize, recordOf, sentOut, pushPiece, numberedFrom, duePieces, tallied}
 use Rattle.flushing.proofs.Calls.{piece-sizes}
 use Rattle.flight.specs.Places.{over, Each}
-use Rattle.flight.specs.Memory.{recordIn, renewedAt, markIn, isGap, flightPlaces, waitingPlaces, launchedSender, launchedAt, flownAt, flownOver, talliedAt, tallyOver, goesAt, sizeIn, sizeAt, sizesOver, freshSizes, bytesIn, pieceAt, piecesOver, resendtsAt, resendtsOver}
+use Rattle.flight.specs.Memory.{recordIn, markIn, isGap, flightPlaces, waitingPlaces, launchedAt, flownAt, flownOver, talliedAt, tallyOver, goesAt, sizeIn, sizeAt, sizesOver, freshSizes, bytesIn, pieceAt, piecesOver, resendtsAt, resendtsOver}
 use Rattle.flight.proofs.Places.{Below, Apart, Once, over-first, over-append, over-apart}
 use Rattle.flight.proofs.Rows.{record-is}
-use Rattle.flight.proofs.Walks.{segmentsAt, segments-gap, segments-live, flown-gap, flown-marks, flown-sized, flown-other}
+use Rattle.flight.proofs.Walks.{segmentsAt, segments-gap, segments-live, flown-marks, flown-sized, flown-other}
 use Rattle.flight.proofs.Seen.{flight-below, flight-once, flight-fit, flight-segments, leavers-live, leavers-fit, leavers-below, leavers-seen, launched-sound, seen-launched}
 
 -- ---- one place

@@ -7,7 +7,7 @@ use mathlib.Core.Path.{_≡_, refl, sym, ap, _∙_}
 use mathlib.Core.List.{List, [], _∷_, _++_, append-assoc, append-nil}
 use lib.ListN.{length}
 use Rattle.ring.specs.Places.{place, along}
-use Rattle.ring.proofs.Places.{place-low, place-high, by-place, place-in, place-apart, along-first}
+use Rattle.ring.proofs.Places.{place-low, place-high, by-place, place-in, place-apart}
 use Rattle.snd_ring.specs.Store.{Store, cell, seen}
 use Rattle.flight.specs.Places.{placesOf, runOf, over, Each, Covers}
 

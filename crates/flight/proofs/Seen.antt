@@ -3,9 +3,9 @@
 use Prim.Native.Nat.{ℕ, zero, suc, _+_, _-_, _≤_, _<_, zero-le, suc-le-suc}
 use native.Mathlib.Omega.{arith}
 use native.Mathlib.Decide.{ℕ-discrete}
-use mathlib.Core.Path.{_≡_, refl, sym, ap, _∙_, subst}
+use mathlib.Core.Path.{_≡_, refl, sym, ap, _∙_}
 use mathlib.Core.Bool.{Bool, true, false, not}
-use mathlib.Core.List.{List, [], _∷_, _++_, map, map-map}
+use mathlib.Core.List.{List, _++_, map}
 use lib.ListN.{length, getD, take, drop, length-map}
 use lib.Seq.{take-at, drop-at}
 use Rattle.serial.specs.Branch.{pick}
@@ -16,20 +16,20 @@ use Rattle.ring.proofs.Counting.{count-add}
 use Rattle.ring.proofs.Sequences.{map-append}
 use Rattle.snd_ring.specs.declared.SndRing.{SndRing}
 use Rattle.snd_ring.specs.Marks.{lives}
-use Rattle.snd_ring.specs.Store.{Store, Stored, cell, flightOf, waitingOf, Sized, Sound}
+use Rattle.snd_ring.specs.Store.{Store, flightOf, waitingOf, Sized, Sound}
 use Rattle.snd_ring.specs.Store as memory
 use Rattle.snd_ring.specs.Steps.{ring}
 use Rattle.snd_ring.proofs.Tests.{all-live}
 use Rattle.snd_ring.proofs.Views.{seen-length, seen-add, seen-kept, waiting-length}
 use Rattle.block.specs.declared.sender.Sender.{Sender}
-use Rattle.sending.specs.Rules.{Segment, Sending, withFlying}
+use Rattle.sending.specs.Rules.{Segment, withFlying}
 use Rattle.transmit.specs.Memory.{segmentOf, seen}
 use Rattle.flushing.specs.declared.due.Pace.{Pace}
 use Rattle.flushing.specs.Windows.{leaving}
 use Rattle.flushing.specs.Pieces.{sentOut}
 use Rattle.flushing.specs.Pieces as rule
 use Rattle.flushing.specs.Rules.{movedOut}
-use Rattle.flight.specs.Places.{placesOf, over, Each}
+use Rattle.flight.specs.Places.{placesOf, Each}
 use Rattle.flight.specs.Memory.{markIn, flightPlaces, waitingPlaces, launchedOver, launchedSender, launchedAt, flownOver}
 use Rattle.flight.proofs.Places.{Below, Once, places-each, places-below, places-apart, places-once, seen-places}
 use Rattle.flight.proofs.Walks.{segmentsAt, flown-marks, flown-sized, flown-other, flown-seen, launched-marks, launched-sized, launched-other, launched-seen}

@@ -1,5 +1,5 @@
 -- What the steps of the code find and leave, in the words of `specs/Memory.antt`. Assumes nothing.
-use Prim.Native.Nat.{ℕ, _+_, _-_, _/_, _≤_, _<_, _^_}
+use Prim.Native.Nat.{ℕ, _+_, _-_, _/_, _≤_, _<_}
 use native.Mathlib.Omega.{arith}
 use mathlib.Core.Path.{_≡_, refl, sym, ap, _∙_}
 use mathlib.Core.List.{List, [], _∷_, _++_}
@@ -9,7 +9,6 @@ use Rattle.ring.specs.Lists.{lists}
 use Rattle.ring.specs.Places.{place}
 use Rattle.ring.specs.Records.{numberAt}
 use Rattle.ring.proofs.Counting.{count-le}
-use Rattle.snd_ring.specs.declared.SndRing.{SndRing}
 use Rattle.snd_ring.specs.Store.{Store, storeOf}
 use Rattle.snd_ring.specs.Steps.{ring}
 use Rattle.snd_ring.proofs.Splits.{marks-length, mark-read}
@@ -17,12 +16,11 @@ use Rattle.block.specs.declared.sender.Sender.{Sender}
 use Rattle.transmit.specs.Memory.{resendts, side}
 use Rattle.transmit.specs.Fits.{Lies}
 use Rattle.transmit.proofs.Numbers.{rows-room}
-use Rattle.flushing.specs.declared.due.Record.{Record}
 use Rattle.flushing.specs.Due.{numbered}
 use Rattle.flushing.specs.Clocks.{nearest, tmPacket}
 use Rattle.flight.specs.declared.Runs.{Runs}
 use Rattle.flight.specs.Places.{placesOf, runOf, over, Covers}
-use Rattle.flight.specs.Memory.{recordIn, renewedAt, flightPlaces, waitingPlaces, launchedOver, launchedSender, launchedAt, resendtsAt, resendtsOver}
+use Rattle.flight.specs.Memory.{recordIn, renewedAt, launchedOver, launchedSender, launchedAt, resendtsAt, resendtsOver}
 use Rattle.flight.proofs.Places.{over-append, places-next, places-end, run-next, run-end, run-all}
 use Rattle.flight.proofs.Walks.{launched-first, launched-none}
 use Rattle.flight.proofs.Out.{resendts-first, resendts-gap, resendts-live}

@@ -1,15 +1,14 @@
 -- One law for both walks that renew rows: of segments that leave the queue, and of a flush. Each segment at the places gets its new record, and all
 -- else stays. Assumes nothing.
-use Prim.Native.Nat.{ℕ, _+_, _<_}
+use Prim.Native.Nat.{ℕ, _+_}
 use mathlib.Core.Path.{_≡_, refl, sym, ap, _∙_}
 use mathlib.Core.List.{List, [], _∷_, _++_, map}
-use lib.ListN.{length, getD}
+use lib.ListN.{length}
 use borrow.Author.Tests.{eq-eqb, ne-eqb}
 use Rattle.serial.specs.Branch.{pick, pick-true, pick-false}
 use Rattle.serial.specs.Wrap.{add32}
 use Rattle.ring.proofs.Sequences.{map-append}
-use Rattle.snd_ring.specs.declared.SndRing.{SndRing}
-use Rattle.snd_ring.specs.Store.{Store, cell, Sized, Sound}
+use Rattle.snd_ring.specs.Store.{Store, cell, Sized}
 use Rattle.snd_ring.proofs.Marks.{by-live}
 use Rattle.snd_ring.proofs.Views.{cell-gap, cell-live, segmentAt}
 use Rattle.sending.specs.Rules.{Segment}

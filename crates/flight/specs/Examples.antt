@@ -14,8 +14,6 @@ use Rattle.snd_ring.specs.Steps.{ring}
 use Rattle.block.specs.declared.sender.Sender.{Sender}
 use Rattle.transmit.specs.Memory.{side}
 use Rattle.flushing.specs.declared.due.Pace.{Pace}
-use Rattle.flushing.specs.declared.due.Tally.{Tally}
-use Rattle.flushing.specs.declared.headers.Told.{Told}
 use Rattle.flushing.specs.Due.{resendsFast, dueOf, longerRto, sentAs, flownBy, dies, withSent}
 use Rattle.flight.specs.Places.{placesOf, runOf, over}
 use Rattle.flight.specs.Memory.{recordIn, renewedAt, flightPlaces, launchedOver, launchedSender, launchedAt, flownAt, flownOver, talliedAt, tallyOver, goesAt, sizeAt, sizesOver, freshSizes, pieceAt, piecesOver, resendtsAt, resendtsOver}

@@ -4,3 +4,4 @@ mod Sizes
 mod Rears
 mod Whole
 mod Flushes
+mod Updates

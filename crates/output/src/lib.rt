@@ -11,13 +11,16 @@ ghost use Rattle.snd_ring.specs.Store.{storeOf, Sound};
 ghost use Rattle.packing.specs.Packer.{holding, sized, closed};
 ghost use Rattle.packing.specs.FlushAck.{writing};
 ghost use Rattle.due.specs.Pass.{Rung};
-ghost use Rattle.output.specs.Memory.{toldOf, planOf, flushAckAt, flushAt, sizesAt, settledBy, rearAt, RearFits, writtenAt, FlushFits};
+ghost use Rattle.output.specs.Memory.{toldOf, planOf, flushAckAt, flushAt, updateAt, checkAt, sizesAt, settledBy, rearAt, RearFits, writtenAt, FlushFits};
 use block::Kcp;
 use block::acklist::AckList;
 use block::probe::Probe;
 use block::refusal::Answer;
 use block::refusal::Refusal;
 use block::sender::Sender;
+use flushing::clock::ticked;
+use flushing::clock::tm_flush;
+use flushing::clock::wait_of;
 use flushing::due::Pace;
 use flushing::due::Tally;
 use flushing::due::pace_of;
@@ -309,7 +312,7 @@ fn flush_write(
 
 // Puts out what waits, the acks, the probes and the segments that are fresh or to be resent, of the block as it is now. Refused by 13, which leaves the
 // block of before and all memory.
-fn flush(
+pub fn flush(
     before: Kcp,
     block: Kcp,
     records: &mut [u32],
@@ -343,4 +346,49 @@ fn flush(
         answer: Answer::Done,
         datagrams: sizes.count,
     }
+}
+
+// Sets the clock, and flushes where a flush is due. Refused by 13, which leaves all, the clock too.
+pub fn update(
+    block: Kcp,
+    current: u32,
+    records: &mut [u32],
+    room: &[u8],
+    acks: &[u32],
+    waiting: &[u8],
+    out: &mut [u8],
+    lengths: &mut [u16],
+) -> Out
+    requires { ⌜ OwnNumbers block ⌝ }
+    requires { ⌜ 2 * block .acklist .acks ≤ length (now acks) ⌝ }
+    requires { ⌜ length (now waiting) ≡ 1500 ⌝ }
+    requires { ⌜ Sound 8 (block .sender .ring) (storeOf 8 (lists (now records) (now room))) ⌝ }
+    ensures { λ r. ⌜ record {
+      out = record { block = r .block; answer = r .answer; datagrams = r .datagrams; written = writing (now (waiting .entry)) (now (out .exit)) (now (lengths .exit)) };
+      store = storeOf 8 (lists (now (records .exit)) (now (room .entry)));
+    }
+        ≡ updateAt current block (storeOf 8 (lists (now (records .entry)) (now (room .entry)))) (now (acks .entry)) (writing (now (waiting .entry)) (now (out .entry)) (now (lengths .entry))) ⌝ }
+{
+    let tick = ticked(block.clock, current);
+    let clock = tick.clock;
+    let now = block.with_clock(clock);
+    if !tick.flushes {
+        return Out {
+            block: now,
+            answer: Answer::Done,
+            datagrams: 0,
+        };
+    }
+    flush(block, now, records, room, acks, waiting, out, lengths)
+}
+
+// How long until the next update, in milliseconds: until the next flush or the next resend, and at most an interval; 0 before the first update.
+pub fn check(block: Kcp, current: u32, records: &[u32], room: &[u8]) -> u32
+    requires { ⌜ Sound 8 (block .sender .ring) (storeOf 8 (lists (now records) (now room))) ⌝ }
+    ensures { λ r. ⌜ r ≡ checkAt current block (storeOf 8 (lists (now (records .entry)) (now (room .entry)))) ⌝ }
+{
+    let clock = block.clock;
+    let sender = block.sender;
+    let packet = flight::tm_packet(sender.ring, records, current);
+    wait_of(clock.interval, packet, tm_flush(clock, current))
 }

@@ -1,8 +1,5 @@
 -- `due::due_write` meets its contract. Assumes nothing.
 use native.Mathlib.Omega.{arith}
-use Prim.Native.Nat.{ℕ, _/_}
-use mathlib.Core.Path.{ap}
-use lib.ListN.{length}
 use Rattle.due.proofs.Writing.{ring-numbers, first-run, second-run, both-runs}
 use borrow.Author.Needs.{needs}
 use Rattle.due.proofs.due_write.Statement.{statement}

@@ -1,6 +1,6 @@
 -- `due::size_at` meets its contract. Assumes nothing.
 use native.Mathlib.Omega.{arith}
-use Prim.Native.Nat.{_+_, _-_}
+use Prim.Native.Nat.{_-_}
 use Rattle.due.proofs.Sizing.{grows, size-idle, size-gap, size-one}
 use borrow.Author.Needs.{needs}
 use Rattle.due.proofs.size_at.Statement.{statement}

@@ -1,9 +1,7 @@
 -- `flight::tm_packet` meets its contract. Assumes nothing.
 use Prim.Native.Nat.{_-_, _^_}
-use mathlib.Core.Path.{sym, _∙_}
 use Rattle.ring.specs.Lists.{lists}
 use Rattle.snd_ring.specs.Store.{storeOf}
-use Rattle.flight.specs.Places.{runOf}
 use Rattle.flight.proofs.Steps.{runs-by, tm-both}
 use borrow.Author.Needs.{needs}
 use Rattle.flight.proofs.tm_packet.Statement.{statement}
