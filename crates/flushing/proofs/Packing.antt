@@ -99,11 +99,11 @@ abbrev pub AtMost : ℕ → List ℕ → Type 0
 AtMost b [] = Unit {0}
 AtMost b (n ∷ l) = (n ≤ b) × AtMost b l
 
-at-most-append : (b : ℕ) (x y : List ℕ) → AtMost b x → AtMost b y → AtMost b (x ++ y)
+pub at-most-append : (b : ℕ) (x y : List ℕ) → AtMost b x → AtMost b y → AtMost b (x ++ y)
 at-most-append b [] y p q = q
 at-most-append b (n ∷ x) y p q = (p .0, at-most-append b x y (p .1) q)
 
-sum-append : (x y : List ℕ) → sumOf (x ++ y) ≡ sumOf x + sumOf y
+pub sum-append : (x y : List ℕ) → sumOf (x ++ y) ≡ sumOf x + sumOf y
 unfolding sumOf
 sum-append [] y = omega arith
 sum-append (n ∷ x) y = ap (λ (k : ℕ). n + k) (sum-append x y) ∙ sym (add-assoc n (sumOf x) (sumOf y))
