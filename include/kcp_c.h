@@ -140,6 +140,29 @@ uint32_t kcp_input(uint32_t *words, size_t count, uint32_t *rcv_records, size_t 
 uint32_t kcp_send(uint32_t *words, size_t count, uint32_t *snd_records, size_t snd_numbers, uint8_t *snd_room, size_t snd_bytes,
                   const uint8_t *data, size_t len, size_t *queued);
 
+/* What goes out. Datagrams are put end to end into out, their lengths into lengths, and how many they are into datagrams; bytes and lengths past those
+   written stay. A refusal leaves all as it was, datagrams too: 9 (NeedUpdate) before the first update, 13 (OutTooSmall) where the datagrams of the call
+   exceed the lent bytes or lengths, or 15. What one flush can need at most: 1,500 + 24 * (acks + 2) + 1,500 * send slots bytes, and as many lengths as
+   2 + (acks + 2) / 2 + send slots. */
+
+/* puts the acks out behind the bytes that wait; what does not fill a datagram stays waiting: 0, or 9, 13 or 15 */
+uint32_t kcp_flush_ack(uint32_t *words, size_t count, const uint32_t *acks, size_t acks_numbers, uint8_t *waiting, size_t waiting_bytes,
+                       uint8_t *out, size_t out_bytes, uint16_t *lengths, size_t lengths_count, size_t *datagrams);
+
+/* puts out what waits, the acks, the probes, and the segments that are fresh or to be resent: 0, or 9, 13 or 15 */
+uint32_t kcp_flush(uint32_t *words, size_t count, uint32_t *snd_records, size_t snd_numbers, const uint8_t *snd_room, size_t snd_bytes,
+                   const uint32_t *acks, size_t acks_numbers, const uint8_t *waiting, size_t waiting_bytes, uint8_t *out, size_t out_bytes,
+                   uint16_t *lengths, size_t lengths_count, size_t *datagrams);
+
+/* sets the clock to current milliseconds, and flushes where a flush is due: 0, or 13 or 15, which leave the clock too */
+uint32_t kcp_update(uint32_t *words, size_t count, uint32_t current, uint32_t *snd_records, size_t snd_numbers, const uint8_t *snd_room,
+                    size_t snd_bytes, const uint32_t *acks, size_t acks_numbers, const uint8_t *waiting, size_t waiting_bytes, uint8_t *out,
+                    size_t out_bytes, uint16_t *lengths, size_t lengths_count, size_t *datagrams);
+
+/* puts into wait how many milliseconds until the next update, 0 before the first one: 0, or 15, which leaves it */
+uint32_t kcp_check(const uint32_t *words, size_t count, uint32_t current, const uint32_t *snd_records, size_t snd_numbers,
+                   const uint8_t *snd_room, size_t snd_bytes, uint32_t *wait);
+
 /* Whether the block and the receive memory, or the send memory, are well formed, as the calls above test it: 0, or 15. They are there to be
    timed; no call needs them. */
 uint32_t kcp_receive_test(const uint32_t *words, size_t count, const uint32_t *records, size_t numbers, const uint8_t *room,

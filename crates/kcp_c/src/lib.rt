@@ -16,6 +16,7 @@ pub mod calls; // the calls over a block's words
 pub mod receiver; // those that are handed the receive memory
 pub mod sender; // those that are handed the send memory
 pub mod arrivals; // one datagram
+pub mod flushes; // what goes out, and when
 
 // timediff(a, b).
 #[no_mangle]

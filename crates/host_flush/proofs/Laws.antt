@@ -1,0 +1,75 @@
+-- What a host is told of flush_ack, flush, update and check, by whether its words are a block, and that it is told one thing only. Assumes nothing.
+use Prim.Native.Nat.{ℕ}
+use mathlib.Core.Path.{_≡_, sym, ap, _∙_}
+use mathlib.Core.Bool.{Bool, true, false, not}
+use mathlib.Core.List.{List}
+use borrow.Author.Tests.{not-true, not-false}
+use Rattle.serial.specs.Branch.{pick, pick-true, pick-false}
+use Rattle.ring.specs.Lists.{Lists}
+use Rattle.snd_ring.specs.Store.{Store, storeOf}
+use Rattle.block.specs.declared.Kcp.{Kcp}
+use Rattle.block.specs.Refusals.{numberOfAnswer}
+use Rattle.words.specs.Words.{wordsOf, blockOf, isBlock}
+use Rattle.host.specs.Words.{setWords}
+use Rattle.packing.specs.FlushAck.{Writing}
+use Rattle.output.specs.Memory.{Out, FlushOut}
+use Rattle.kcp_flush.specs.declared.Wait.{Wait}
+use Rattle.kcp_flush.specs.Calls.{numberOfWait, checkOf}
+use Rattle.host_flush.specs.Words.{countIn, Left, WordsOut, WordsFlushed, waitIn, WordsChecked}
+
+-- t tells whether the words l are a block
+module _ (l : List ℕ) {t : Bool} (e : t ≡ isBlock l) where
+  -- they are none
+  module _ (h : not t ≡ true) where
+    none : isBlock l ≡ false
+    none = sym e ∙ not-true t h
+
+    pub out-none : (f : Kcp → Out) (w : Writing) (n : ℕ) → WordsOut f w l n (record { number = 15; datagrams = n; words = l; written = w })
+    unfolding setWords
+    out-none f w n = record { refusal = sym (pick-false _ _ none); count = sym (pick-false _ _ none); words = sym (pick-false _ _ none); bytes = sym (pick-false _ _ none) }
+
+    pub flush-none : (f : Kcp → FlushOut) (snd : Lists) (w : Writing) (n : ℕ) → WordsFlushed f snd w l n (record { number = 15; datagrams = n; words = l; written = w }) (storeOf 8 snd)
+    flush-none f snd w n = record { out = out-none (λ k. f k .out) w n; sends = sym (pick-false _ _ none) }
+
+    pub check-none : (snd : Lists) (current n : ℕ) → WordsChecked snd current l n 15 n
+    check-none snd current n = record { refusal = sym (pick-false _ _ none); wait = sym (pick-false _ _ none) }
+
+  -- they are the block b
+  module _ (h : not t ≡ false) {b : Kcp} (held : b ≡ blockOf l) where
+    gives : {A : Type 0} (f : Kcp → A) (z : A) → f b ≡ pick (isBlock l) (f (blockOf l)) z
+    gives f z = ap f held ∙ sym (pick-true _ _ (sym e ∙ not-false t h))
+
+    -- o is what the call left, and r, d, x what was told of it
+    pub out-done : (f : Kcp → Out) (w : Writing) (n : ℕ) {o : Out} → o ≡ f b → {r d : ℕ} {x : List ℕ} → r ≡ numberOfAnswer (o .answer) → d ≡ countIn n (o .answer) (o .datagrams) → x ≡ wordsOf (o .block)
+        → WordsOut f w l n (record { number = r; datagrams = d; words = x; written = o .written })
+    unfolding setWords
+    out-done f w n is p q s = record {
+      refusal = p ∙ ap (λ (o : Out). numberOfAnswer (o .answer)) is ∙ gives (λ k. numberOfAnswer (f k .answer)) 15;
+      count = q ∙ ap (λ (o : Out). countIn n (o .answer) (o .datagrams)) is ∙ gives (λ k. countIn n (f k .answer) (f k .datagrams)) n;
+      words = s ∙ ap (λ (o : Out). wordsOf (o .block)) is ∙ gives (λ k. wordsOf (f k .block)) l;
+      bytes = ap (λ (o : Out). o .written) is ∙ gives (λ k. f k .written) w;
+    }
+
+    pub flush-done : (f : Kcp → FlushOut) (snd : Lists) (w : Writing) (n : ℕ) {o : FlushOut} → o ≡ f b → {r d : ℕ} {x : List ℕ} → r ≡ numberOfAnswer (o .out .answer)
+        → d ≡ countIn n (o .out .answer) (o .out .datagrams) → x ≡ wordsOf (o .out .block)
+        → WordsFlushed f snd w l n (record { number = r; datagrams = d; words = x; written = o .out .written }) (o .store)
+    flush-done f snd w n is p q s = record {
+      out = out-done (λ k. f k .out) w n (ap (λ (o : FlushOut). o .out) is) p q s;
+      sends = ap (λ (o : FlushOut). o .store) is ∙ gives (λ k. f k .store) (storeOf 8 snd);
+    }
+
+    pub check-done : (snd : Lists) (current n : ℕ) {a : Wait} → a ≡ checkOf b snd current → {r d : ℕ} → r ≡ numberOfWait a → d ≡ waitIn n a → WordsChecked snd current l n r d
+    check-done snd current n is p q = record {
+      refusal = p ∙ ap numberOfWait is ∙ gives (λ k. numberOfWait (checkOf k snd current)) 15;
+      wait = q ∙ ap (waitIn n) is ∙ gives (λ k. waitIn n (checkOf k snd current)) n;
+    }
+
+-- any two outcomes that meet the promise coincide
+pub out-one : {f : Kcp → Out} {w : Writing} {l : List ℕ} {n : ℕ} {o p : Left} → WordsOut f w l n o → WordsOut f w l n p → o ≡ p
+out-one u v = rw (u .refusal, v .refusal, u .count, v .count, u .words, v .words, u .bytes, v .bytes)
+
+pub flush-one : {f : Kcp → FlushOut} {snd : Lists} {w : Writing} {l : List ℕ} {n : ℕ} {o p : Left} {x y : Store} → WordsFlushed f snd w l n o x → WordsFlushed f snd w l n p y → (o ≡ p) × (x ≡ y)
+flush-one {f} u v = (out-one {f = λ k. f k .out} (u .out) (v .out), u .sends ∙ sym (v .sends))
+
+pub check-one : {snd : Lists} {current : ℕ} {l : List ℕ} {n r s a b : ℕ} → WordsChecked snd current l n r a → WordsChecked snd current l n s b → (r ≡ s) × (a ≡ b)
+check-one u v = (u .refusal ∙ sym (v .refusal), u .wait ∙ sym (v .wait))

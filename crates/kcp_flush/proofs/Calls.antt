@@ -1,0 +1,235 @@
+-- What flush_ack, flush, update and check promise, at each of their tests; that their tests give what the functions below them ask; and that each
+-- contract leaves one outcome only. Assumes nothing.
+use Prim.Native.Nat.{ℕ, _*_, _≤_}
+use native.Mathlib.Omega.{arith}
+use mathlib.Core.Path.{_≡_, refl, sym, ap, _∙_}
+use mathlib.Core.Bool.{Bool, true, false, not, _&&_}
+use mathlib.Core.List.{List, [], map}
+use lib.ListN.{length}
+use borrow.Author.Tests.{not-true, not-false}
+use Rattle.serial.specs.Branch.{pick, pick-true, pick-false, pick-ap}
+use Rattle.ring.specs.Lists.{Lists}
+use Rattle.snd_ring.specs.Store.{Store, storeOf, Sound}
+use Rattle.block.specs.declared.Kcp.{Kcp}
+use Rattle.block.specs.declared.refusal.Refusal.the-variants.{NeedUpdate, BadPool}
+use Rattle.block.specs.Refusals.{numberOfAnswer, valuesOfAnswer}
+use Rattle.block.specs.Parts.{withClock}
+use Rattle.block.specs.Sizes.{AckSizes, pairs}
+use Rattle.block.specs.WellFormed.{ownNumbers, OwnNumbers, ackLent}
+use Rattle.block.proofs.Exact.{Exactly, exactly-both, own-numbers, acks-exactly}
+use Rattle.block.proofs.Together.{goes, stops}
+use Rattle.transmit.specs.Fits.{sendLent, SendLent, sendFits}
+use Rattle.transmit.proofs.Exact.{lent-exactly, sound-of, exactly}
+use Rattle.flushing.specs.Clocks.{ticked}
+use Rattle.flushing.specs.Rules.{flushedAck, flushed}
+use Rattle.packing.specs.FlushAck.{Writing}
+use Rattle.output.specs.Memory.{outgoing, Out, unsent, FlushOut, flushAckAt, flushAt, updateAt, checkAt}
+use Rattle.kcp_flush.specs.declared.Wait.{Wait}
+use Rattle.kcp_flush.specs.declared.Wait.the-variants.{Is, Refused}
+use Rattle.kcp_flush.specs.Calls.{ackFits, flushFits, flushAckOf, ackExceeds, FlushesAck, unflushed, flushExceeds, flushOf, Flushes, updateOf, Updates, numberOfWait, valuesOfWait, checkOf, Checks}
+
+-- a choice between two of which f tells the same
+either-way : {A B : Type 0} (f : A → B) (t : Bool) (a b : A) {x : B} → f a ≡ x → f b ≡ x → f (pick t a b) ≡ x
+unfolding pick
+either-way f true a b p q = p
+either-way f false a b p q = q
+
+abbrev valuesIn : Out → List ℕ
+valuesIn o = valuesOfAnswer (o .answer)
+
+abbrev valuesBy : FlushOut → List ℕ
+valuesBy o = valuesOfAnswer (o .out .answer)
+
+abbrev numberIn : Out → ℕ
+numberIn o = numberOfAnswer (o .answer)
+
+abbrev numberBy : FlushOut → ℕ
+numberBy o = numberOfAnswer (o .out .answer)
+
+-- ---- the tests
+
+module _ (k : Kcp) (acks waiting : List ℕ) where
+  pub ack-exactly : Exactly (ackFits k acks waiting) (OwnNumbers k × (AckSizes (length acks) (length waiting) × (k .acklist .acks ≤ pairs (length acks))))
+  unfolding ackFits
+  ack-exactly = exactly-both (own-numbers k) (acks-exactly (k .acklist) acks waiting)
+
+  module _ (snd : Lists) where
+    pub flush-exactly : Exactly (flushFits k snd acks waiting) (OwnNumbers k × (SendLent (k .sender) snd × (AckSizes (length acks) (length waiting) × (k .acklist .acks ≤ pairs (length acks)))))
+    unfolding flushFits
+    flush-exactly = exactly-both (own-numbers k) (exactly-both (lent-exactly (k .sender) snd) (acks-exactly (k .acklist) acks waiting))
+
+-- the ack memory has room for what is counted
+paired : {n a w : ℕ} → AckSizes a w → n ≤ pairs a → (2 * n ≤ a) × (w ≡ 1500)
+paired s h = (let p = s .paired in omega arith, s .kept)
+
+-- t tells whether the block's own numbers fit
+module _ (k : Kcp) (acks waiting : List ℕ) {t : Bool} (own : t ≡ ownNumbers k) where
+  pub no-own-ack : not t ≡ true → false ≡ ackFits k acks waiting
+  unfolding ackFits
+  no-own-ack h = stops _ (sym own ∙ not-true t h)
+
+  pub by-acks : not t ≡ false → {r : Bool} → r ≡ ackLent (k .acklist) acks waiting → r ≡ ackFits k acks waiting
+  unfolding ackFits
+  by-acks h e = e ∙ goes _ (sym own ∙ not-false t h)
+
+  module _ (snd : Lists) where
+    pub no-own : not t ≡ true → false ≡ flushFits k snd acks waiting
+    unfolding flushFits
+    no-own h = stops _ (sym own ∙ not-true t h)
+
+    module _ (passes : not t ≡ false) {u : Bool} (sent : u ≡ sendLent (k .sender) snd) where
+      pub no-send : not u ≡ true → false ≡ flushFits k snd acks waiting
+      unfolding flushFits
+      no-send h = stops _ (sym sent ∙ not-true u h) ∙ goes _ (sym own ∙ not-false t passes)
+
+      pub by-both : not u ≡ false → {r : Bool} → r ≡ ackLent (k .acklist) acks waiting → r ≡ flushFits k snd acks waiting
+      unfolding flushFits
+      by-both h e = e ∙ goes _ (sym sent ∙ not-false u h) ∙ goes _ (sym own ∙ not-false t passes)
+
+-- ---- flush_ack
+
+module _ (k : Kcp) (acks : List ℕ) (w : Writing) where
+  abbrev fits : Bool
+  fits = ackFits k acks (w .waiting)
+
+  ack-number : numberIn (flushAckOf k acks w) ≡ pick fits (pick (k .clock .updated) (pick (ackExceeds k acks w) 13 0) 9) 15
+  unfolding flushAckOf flushAckAt flushedAck outgoing
+  ack-number =
+      pick-ap numberIn fits _ _
+      ∙ ap (λ (n : ℕ). pick fits n 15) (pick-ap numberIn (k .clock .updated) _ _ ∙ ap (λ (n : ℕ). pick (k .clock .updated) n 9) (pick-ap numberIn (ackExceeds k acks w) _ _))
+
+  ack-values : valuesIn (flushAckOf k acks w) ≡ []
+  unfolding flushAckOf flushAckAt
+  ack-values = either-way valuesIn fits _ _ (either-way valuesIn (k .clock .updated) _ _ (either-way valuesIn _ _ _ refl refl) refl) refl
+
+  ack-promise : {o : Out} → o ≡ flushAckOf k acks w → FlushesAck k acks w o
+  ack-promise e = record { is = e; refusal = ap numberIn e ∙ ack-number; values = ap valuesIn e ∙ ack-values }
+
+  -- t tells whether block and memory fit
+  module _ {t : Bool} (tested : t ≡ fits) where
+    pub ack-bad : not t ≡ true → FlushesAck k acks w (unsent k w BadPool)
+    unfolding flushAckOf
+    ack-bad h = ack-promise (sym (pick-false _ _ (sym tested ∙ not-true t h)))
+
+    module _ (passes : not t ≡ false) where
+      fit : fits ≡ true
+      fit = sym tested ∙ not-false t passes
+
+      pub ack-asks : OwnNumbers k × ((2 * k .acklist .acks ≤ length acks) × (length (w .waiting) ≡ 1500))
+      ack-asks = let f = ack-exactly k acks (w .waiting) .holds fit in (f .0, paired (f .1 .0) (f .1 .1))
+
+      pub ack-early : not (k .clock .updated) ≡ true → FlushesAck k acks w (unsent k w NeedUpdate)
+      unfolding flushAckOf
+      ack-early h = ack-promise (sym (pick-true _ _ fit ∙ pick-false _ _ (not-true (k .clock .updated) h)))
+
+      pub ack-done : not (k .clock .updated) ≡ false → {o : Out} → o ≡ flushAckAt k acks w → FlushesAck k acks w o
+      unfolding flushAckOf
+      ack-done h e = ack-promise (e ∙ sym (pick-true _ _ fit ∙ pick-true _ _ (not-false (k .clock .updated) h)))
+
+-- any two outcomes that meet the contract coincide
+pub ack-once : {k : Kcp} {acks : List ℕ} {w : Writing} {o p : Out} → FlushesAck k acks w o → FlushesAck k acks w p → o ≡ p
+ack-once x y = x .is ∙ sym (y .is)
+
+-- ---- flush and update
+
+module _ (k : Kcp) (snd : Lists) (acks : List ℕ) (w : Writing) where
+  abbrev well : Bool
+  well = flushFits k snd acks (w .waiting)
+
+  flush-number : numberBy (flushOf k snd acks w) ≡ pick well (pick (k .clock .updated) (pick (flushExceeds k snd acks w) 13 0) 9) 15
+  unfolding flushOf flushAt
+  flush-number =
+      pick-ap numberBy well _ _
+      ∙ ap (λ (n : ℕ). pick well n 15) (pick-ap numberBy (k .clock .updated) _ _ ∙ ap (λ (n : ℕ). pick (k .clock .updated) n 9) (pick-ap numberBy (flushExceeds k snd acks w) _ _))
+
+  flush-values : valuesBy (flushOf k snd acks w) ≡ []
+  unfolding flushOf flushAt
+  flush-values = either-way valuesBy well _ _ (either-way valuesBy (k .clock .updated) _ _ (either-way valuesBy _ _ _ refl refl) refl) refl
+
+  flush-promise : {o : FlushOut} → o ≡ flushOf k snd acks w → Flushes k snd acks w o
+  flush-promise e = record { is = e; refusal = ap numberBy e ∙ flush-number; values = ap valuesBy e ∙ flush-values }
+
+  module _ (current : ℕ) where
+    abbrev due : Bool
+    due = ticked (k .clock) current .flushes
+
+    abbrev later : Kcp
+    later = withClock k (ticked (k .clock) current .clock)
+
+    update-number : numberBy (updateOf k snd acks w current) ≡ pick well (pick due (pick (flushExceeds later snd acks w) 13 0) 0) 15
+    unfolding updateOf updateAt flushAt
+    update-number =
+        pick-ap numberBy well _ _
+        ∙ ap (λ (n : ℕ). pick well n 15) (pick-ap numberBy due _ _ ∙ ap (λ (n : ℕ). pick due n 0) (pick-ap numberBy (flushExceeds later snd acks w) _ _))
+
+    update-values : valuesBy (updateOf k snd acks w current) ≡ []
+    unfolding updateOf updateAt flushAt
+    update-values = either-way valuesBy well _ _ (either-way valuesBy due _ _ (either-way valuesBy _ _ _ refl refl) refl) refl
+
+    update-promise : {o : FlushOut} → o ≡ updateOf k snd acks w current → Updates k snd acks w current o
+    update-promise e = record { is = e; refusal = ap numberBy e ∙ update-number; values = ap valuesBy e ∙ update-values }
+
+  -- t tells whether block and memory fit
+  module _ {t : Bool} (tested : t ≡ well) where
+    pub flush-bad : not t ≡ true → Flushes k snd acks w (unflushed k snd w BadPool)
+    unfolding flushOf
+    flush-bad h = flush-promise (sym (pick-false _ _ (sym tested ∙ not-true t h)))
+
+    pub update-bad : (current : ℕ) → not t ≡ true → Updates k snd acks w current (unflushed k snd w BadPool)
+    unfolding updateOf
+    update-bad current h = update-promise current (sym (pick-false _ _ (sym tested ∙ not-true t h)))
+
+    module _ (passes : not t ≡ false) where
+      all-well : well ≡ true
+      all-well = sym tested ∙ not-false t passes
+
+      pub flush-asks : OwnNumbers k × ((2 * k .acklist .acks ≤ length acks) × ((length (w .waiting) ≡ 1500) × Sound 8 (k .sender .ring) (storeOf 8 snd)))
+      flush-asks =
+          let f = flush-exactly k acks (w .waiting) snd .holds all-well in
+          let p = paired (f .1 .1 .0) (f .1 .1 .1) in
+          (f .0, (p .0, (p .1, sound-of {k = k} {l = snd} (record { own = f .0; lent = f .1 .0 }))))
+
+      pub flush-early : not (k .clock .updated) ≡ true → Flushes k snd acks w (unflushed k snd w NeedUpdate)
+      unfolding flushOf
+      flush-early h = flush-promise (sym (pick-true _ _ all-well ∙ pick-false _ _ (not-true (k .clock .updated) h)))
+
+      pub flush-done : not (k .clock .updated) ≡ false → {o : FlushOut} → o ≡ flushAt k k (storeOf 8 snd) acks w → Flushes k snd acks w o
+      unfolding flushOf
+      flush-done h e = flush-promise (e ∙ sym (pick-true _ _ all-well ∙ pick-true _ _ (not-false (k .clock .updated) h)))
+
+      pub update-done : (current : ℕ) {o : FlushOut} → o ≡ updateAt current k (storeOf 8 snd) acks w → Updates k snd acks w current o
+      unfolding updateOf
+      update-done current e = update-promise current (e ∙ sym (pick-true _ _ all-well))
+
+pub flush-once : {k : Kcp} {snd : Lists} {acks : List ℕ} {w : Writing} {o p : FlushOut} → Flushes k snd acks w o → Flushes k snd acks w p → o ≡ p
+flush-once x y = x .is ∙ sym (y .is)
+
+pub update-once : {k : Kcp} {snd : Lists} {acks : List ℕ} {w : Writing} {current : ℕ} {o p : FlushOut} → Updates k snd acks w current o → Updates k snd acks w current p → o ≡ p
+update-once x y = x .is ∙ sym (y .is)
+
+-- ---- check
+
+module _ (k : Kcp) (snd : Lists) (current : ℕ) where
+  check-promise : {r : Wait} → r ≡ checkOf k snd current → Checks k snd current r
+  unfolding checkOf
+  check-promise e = record {
+    is = e;
+    refusal = ap numberOfWait e ∙ pick-ap numberOfWait (sendFits k snd) _ _;
+    values = ap valuesOfWait e ∙ either-way valuesOfWait (sendFits k snd) _ _ refl refl;
+  }
+
+  module _ {t : Bool} (tested : t ≡ sendFits k snd) where
+    pub check-bad : not t ≡ true → Checks k snd current (Refused BadPool)
+    unfolding checkOf
+    check-bad h = check-promise (sym (pick-false _ _ (sym tested ∙ not-true t h)))
+
+    module _ (passes : not t ≡ false) where
+      pub check-asks : Sound 8 (k .sender .ring) (storeOf 8 snd)
+      check-asks = sound-of {k = k} {l = snd} (exactly k snd .holds (sym tested ∙ not-false t passes))
+
+      pub check-done : {n : ℕ} → n ≡ checkAt current k (storeOf 8 snd) → Checks k snd current (Is n)
+      unfolding checkOf
+      check-done e = check-promise (ap Is e ∙ sym (pick-true _ _ (sym tested ∙ not-false t passes)))
+
+pub check-once : {k : Kcp} {snd : Lists} {current : ℕ} {r s : Wait} → Checks k snd current r → Checks k snd current s → r ≡ s
+check-once x y = x .is ∙ sym (y .is)
