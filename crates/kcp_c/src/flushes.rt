@@ -57,7 +57,15 @@ pub extern "C" fn kcp_update(
         (record { number = r; datagrams = now (datagrams .exit); words = now (words .exit); written = writing (now (waiting .entry)) (now (out .exit)) (now (lengths .exit)) }) (storeOf 8 (lists (now (records .exit)) (now (room .entry)))) ⌝ }
 {
     host_flush::update(
-        words, current, records, room, acks, waiting, out, lengths, datagrams,
+        words,
+        current,
+        records,
+        room,
+        acks,
+        waiting,
+        out,
+        lengths,
+        datagrams,
     )
 }
 
