@@ -162,6 +162,75 @@ fn mtu_rows(block: Kcp) {
     write_row(b"set_mtu(1501)", mtu_number(block, 1501));
 }
 
+// One update: its number, how many datagrams went out, and where the clock and the next flush then stand.
+fn update_row(
+    called: &[u8],
+    block: Kcp,
+    current: u32,
+    records: &mut [u32],
+    room: &[u8],
+    acks: &[u32],
+    waiting: &[u8],
+) -> Kcp {
+    let mut out = [0u8; 64];
+    let mut lengths = [0u16; 4];
+    let updated = kcp_flush::update(
+        block,
+        current,
+        records,
+        room,
+        acks,
+        waiting,
+        &mut out,
+        &mut lengths,
+    );
+    let answer = updated.answer;
+    let after = updated.block;
+    let clock = after.clock;
+    write_row(called, answer.number());
+    write_line(b"its datagrams", updated.datagrams as u64);
+    write_line(b"the clock then", clock.current as u64);
+    write_line(b"ts_flush then", clock.ts_flush as u64);
+    after
+}
+
+// The first update opens the window for one segment and sets ts_flush to 20,100; "hi" then waits for a flush.
+fn hi_waits(block: Kcp, records: &mut [u32], room: &mut [u8], acks: &[u32], waiting: &[u8]) -> Kcp {
+    let first = update_row(
+        b"update(20000), the first",
+        block,
+        20000,
+        records,
+        room,
+        acks,
+        waiting,
+    );
+    let sent = kcp_send::send(first, records, room, b"hi");
+    sent.block
+}
+
+// "Updated block, clock 10,000 before ts_flush: update only stores the time. 10,001 before: ts_flush restarts and a flush runs."
+fn clock_rows(block: Kcp, records: &mut [u32], room: &[u8], acks: &[u32], waiting: &[u8]) {
+    let stored = update_row(
+        b"update(10100), 10000 before ts_flush",
+        block,
+        10100,
+        records,
+        room,
+        acks,
+        waiting,
+    );
+    update_row(
+        b"update(10099), 10001 before ts_flush",
+        stored,
+        10099,
+        records,
+        room,
+        acks,
+        waiting,
+    );
+}
+
 // The payloads of 256 receive slots and of 128 send slots, and 1,501 bytes. Each contract gives the length alone, which lending the array needs.
 fn receive_room() -> [u8; 377856]
     ensures { λ r. ⌜ 377856 ≡ length r ⌝ }
@@ -202,7 +271,25 @@ fn datagram() -> [u8; 1501]
     out
 }
 
-// Makes a fresh block over the memory lent, and writes the rows.
+// Makes a fresh block over the memory lent, and writes the rows of the clock.
+fn rows_of_clock(
+    records: &[u32],
+    room: &[u8],
+    snd_records: &mut [u32],
+    snd_room: &mut [u8],
+    acks: &[u32],
+    waiting: &[u8],
+) {
+    let made = Kcp::new(1, records, room, snd_records, snd_room, acks, waiting);
+    let Made::Block { block } = made else {
+        io::write_all(STDOUT_FILENO, b"no block\n");
+        return;
+    };
+    let waits = hi_waits(block, snd_records, snd_room, acks, waiting);
+    clock_rows(waits, snd_records, snd_room, acks, waiting);
+}
+
+// Makes a fresh block over the memory lent, and writes the other rows.
 fn rows(
     records: &mut [u32],
     room: &mut [u8],
@@ -235,7 +322,7 @@ fn main() {
     let mut records = [0u32; 256];
     let mut room = receive_room();
     let mut snd_records = [0u32; 1152];
-    let snd_room = send_room();
+    let mut snd_room = send_room();
     let mut acks = [0u32; 256];
     let waiting = [0u8; 1500];
     rows(
@@ -244,6 +331,14 @@ fn main() {
         &mut snd_records,
         &snd_room,
         &mut acks,
+        &waiting,
+    );
+    rows_of_clock(
+        &records,
+        &room,
+        &mut snd_records,
+        &mut snd_room,
+        &acks,
         &waiting,
     );
 }

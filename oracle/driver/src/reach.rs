@@ -1,10 +1,13 @@
-//! Which of the cases that matter to send and input a run of calls has met: seen in the judge's state before and after each call.
+//! Which of the cases that matter to send, input and the way out a run of calls has met: seen in the judge's state before and after
+//! each call.
+
+mod way_out;
 
 use crate::call::{datagram, Call, Sizes, ACK, ASK, PUSH, TELL};
 use crate::side::{Answer, Outcome};
 use state::{Segment, State};
 
-/// The cases, in the order of the table.
+/// The cases of input and send, in the order of the table; those of the way out follow.
 const CASES: [&str; 58] = [
     "input: push, ack, ask and tell in one datagram",
     "input: refused by 1",
@@ -66,8 +69,12 @@ const CASES: [&str; 58] = [
     "send: a stream joins the last segment with the pool full",
 ];
 
+fn cases() -> impl Iterator<Item = &'static str> {
+    CASES.iter().chain(&way_out::CASES).copied()
+}
+
 pub struct Reach {
-    counts: [u64; CASES.len()],
+    counts: Vec<u64>,
     tails: [u64; 24],
 }
 
@@ -110,13 +117,13 @@ fn read(bytes: &[u8]) -> Vec<Met> {
 
 impl Default for Reach {
     fn default() -> Reach {
-        Reach { counts: [0; CASES.len()], tails: [0; 24] }
+        Reach { counts: vec![0; cases().count()], tails: [0; 24] }
     }
 }
 
 impl Reach {
     fn note(&mut self, case: &str, met: bool) {
-        match CASES.iter().position(|c| *c == case) {
+        match cases().position(|c| c == case) {
             Some(i) => self.counts[i] += met as u64,
             None => panic!("no case is called '{}'", case),
         }
@@ -125,10 +132,10 @@ impl Reach {
     /// How many cases were never met, and a line for each case.
     pub fn table(&mut self) -> (usize, Vec<String>) {
         let least = self.tails[1..].iter().copied().min().unwrap_or(0);
-        if let Some(i) = CASES.iter().position(|c| c.contains("a tail")) {
+        if let Some(i) = cases().position(|c| c.contains("a tail")) {
             self.counts[i] = least;
         }
-        let lines = CASES.iter().zip(&self.counts).map(|(case, n)| format!("{:>8}  {}", n, case)).collect();
+        let lines = cases().zip(&self.counts).map(|(case, n)| format!("{:>8}  {}", n, case)).collect();
         (self.counts.iter().filter(|n| **n == 0).count(), lines)
     }
 
@@ -149,7 +156,7 @@ impl Reach {
                 }
             }
             Call::Send(fill) => self.send(before, fill.len, out, after, sizes),
-            _ => {}
+            _ => way_out::saw(before, call, out, after, &mut |case, met| self.note(case, met)),
         }
     }
 

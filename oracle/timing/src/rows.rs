@@ -23,6 +23,8 @@ pub fn all<S: Side>() -> Vec<Row<S>> {
         input_50_acks("input-50-acks-of-1024", 1024),
         input_50_acks_newest_first("input-50-acks-newest-first", 0),
         input_50_acks_newest_first("input-50-acks-newest-first-of-1024", 1024),
+        input_dearest_acks(),
+        input_dearest_pushes(),
         send("send-1k", KIB, 1, 0),
         send("send-1k-of-1024", KIB, 1, 1024),
         send("send-100k", 100 * KIB, 75, 0),
@@ -169,6 +171,68 @@ fn input_50_acks_newest_first<S: Side>(name: &'static str, slots: usize) -> Row<
         settle: |s| {
             arrive(s, 128);
             raise(&mut s.datagram, 128);
+        },
+        ..blank()
+    }
+}
+
+/// What a peer can make us do with one datagram of acks: 62 of them, newest first, with 1,024 segments in flight, una taking none.
+/// The other 962 each gain a fastack.
+fn input_dearest_acks<S: Side>() -> Row<S> {
+    Row {
+        name: "input-62-acks-1024-in-flight",
+        needs: &[Call::Input, Call::Send],
+        flight: 1024,
+        slots: 1024,
+        before: Sizes { in_flight: 1024, ..NONE },
+        after: Sizes { in_flight: 962, ..NONE },
+        answer: 62 * HEADER,
+        start: |s| {
+            s.datagram = acks((962..1024).rev());
+            arrive(s, 0);
+        },
+        prepare: |s| fly(s, 1024),
+        run: input_each,
+        settle: |s| {
+            arrive(s, 1024);
+            raise(&mut s.datagram, 1024);
+        },
+        ..blank()
+    }
+}
+
+/// The numbers behind a whole window of 512 that `input_dearest_pushes` is about: every eighth, 62 of them.
+fn far_apart(next: u32) -> impl Iterator<Item = u32> {
+    (0..62).map(move |i| next + 512 + 8 * i)
+}
+
+/// What a peer can make us do with one datagram of pushes: 62 of them, far apart. A window of 512 is readable and as many numbers stand
+/// behind it, those missing that are pushed.
+fn input_dearest_pushes<S: Side>() -> Row<S> {
+    Row {
+        name: "input-62-pushes-450-held",
+        needs: &[Call::Input, Call::Recv],
+        window: 512,
+        slots: 1024,
+        before: Sizes { readable: 512, held: 450, ..NONE },
+        after: Sizes { readable: 512, held: 512, acks: 62, ..NONE },
+        answer: 62 * HEADER,
+        prepare: |s| {
+            s.datagram = far_apart(s.next).flat_map(|sn| datagram_of(PUSH, sn, 512, &[])).collect();
+            for sn in s.next..s.next + 1024 {
+                if far_apart(s.next).all(|missing| missing != sn) {
+                    s.blocks[0].input(&datagram_of(PUSH, sn, 512, &[]));
+                    s.blocks[0].forget_acks();
+                }
+            }
+        },
+        run: input_each,
+        settle: |s| {
+            for _ in 0..1024 {
+                s.blocks[0].recv(&mut s.into);
+            }
+            s.blocks[0].forget_acks();
+            s.next += 1024;
         },
         ..blank()
     }

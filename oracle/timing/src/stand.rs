@@ -23,6 +23,8 @@ pub struct Stand<S> {
     pub datagram: Vec<u8>,
     /// A tell whose una says that everything in flight has arrived.
     pub arrived: Vec<u8>,
+    /// The number that the peer gives next, in a row that is prepared by many pushes.
+    pub next: u32,
     /// What the last call answered.
     pub answer: usize,
 }
@@ -35,6 +37,8 @@ pub struct Row<S> {
     pub needs: &'static [Call],
     pub blocks: usize,
     pub window: u16,
+    /// The send window and the peer's, where they are not the window.
+    pub flight: u16,
     /// The slots to receive and as many to send, lent to a side whose memory is fixed; 0 is for twice the window to receive, and
     /// the window to send.
     pub slots: usize,
@@ -61,6 +65,7 @@ pub fn blank<S: Side>() -> Row<S> {
         needs: &[],
         blocks: 1,
         window: 128,
+        flight: 0,
         slots: 0,
         calls: 1,
         before: NONE,
@@ -99,8 +104,17 @@ impl<S: Side> Row<S> {
             message: (0..KIB).map(|i| i as u8).collect(),
             into: vec![0; 2 * KIB],
             datagram: Vec::new(),
-            arrived: datagram_of(TELL, 0, self.window, &[]),
+            arrived: datagram_of(TELL, 0, self.flight(), &[]),
+            next: 0,
             answer: 0,
+        }
+    }
+
+    fn flight(&self) -> u16 {
+        if self.flight == 0 {
+            self.window
+        } else {
+            self.flight
         }
     }
 
@@ -110,7 +124,7 @@ impl<S: Side> Row<S> {
         let slots = if self.slots == 0 { [2 * window, window] } else { [self.slots; 2] };
         let mut block = S::new(CONV, self.window, slots);
         block.set_nodelay(true, INTERVAL as i32, 2, true);
-        block.set_wndsize(self.window, self.window);
+        block.set_wndsize(self.flight(), self.window);
         block.update(0);
         block
     }
