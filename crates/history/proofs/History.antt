@@ -27,7 +27,7 @@ use Rattle.receive.specs.Fits.{receiveFits}
 use Rattle.receive.proofs.Seen.{seen-queued, seen-held}
 use Rattle.receive.proofs.Windows.{seen-fresh, fresh-good}
 use Rattle.transmit.specs.Fits.{sendFits}
-use Rattle.kcp.specs.Calls.{recvOf}
+use Rattle.kcp_receive.specs.Calls.{recvOf}
 use Rattle.kcp_input.specs.Input.{inputFits}
 use Rattle.history.specs.History.{Call, Memory, seenIn, History, step, run, begun, SoundCalls}
 use Rattle.history.proofs.Rising.{fresh-flies}

@@ -41,7 +41,7 @@ use Rattle.transmit.proofs.Exact.{exactly as send-exactly, lent-exactly as send
 use Rattle.send.proofs.Keep.{send-sound, send-keeps, send-asks}
 use Rattle.input.specs.Segment.{Met, End, through, stopped}
 use Rattle.input.specs.Datagram.{ReadOut, metOf, finished, walkOf, readAt}
-use Rattle.kcp.specs.Calls.{moveBufOf, outBy, recvOf, setWndsizeOf, RecvOut}
+use Rattle.kcp_receive.specs.Calls.{moveBufOf, outBy, recvOf, setWndsizeOf, RecvOut}
 use Rattle.kcp_send.specs.Send.{SendOut, sendOf}
 use Rattle.kcp_input.specs.Input.{inputFits, inputOf}
 use Rattle.history.specs.History.{Call, callInput, callSend, callMoveBuf, callPeeksize, callRecv, callSetWndsize, callSetMtu, callSetInterval, callSetNodelay, callSetRxMinrto, callSetFastResend, callSetMaximumResendTimes, callInputConv, callSetConv, callGet, listsOf, Memory, withBlock, leaves, seenIn, unlessBad, events}

@@ -21,7 +21,7 @@ use Rattle.receive.specs.Memory.{seen}
 use Rattle.transmit.specs.Memory.{flyingNumbers}
 use Rattle.receive.specs.Fits.{receiveFits}
 use Rattle.input.specs.Datagram.{metOf}
-use Rattle.kcp.specs.Calls.{moveBufOf, recvOf, setWndsizeOf}
+use Rattle.kcp_receive.specs.Calls.{moveBufOf, recvOf, setWndsizeOf}
 use Rattle.kcp_send.specs.Send.{sendOf}
 use Rattle.kcp_input.specs.Input.{inputFits, inputOf}
 use Rattle.history.specs.Pushes.{pushesOf}

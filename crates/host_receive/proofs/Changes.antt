@@ -19,7 +19,7 @@ use Rattle.receiving.specs.Rules.{Answer, empty, expecting, longer, gives, tell
 use Rattle.receive.specs.declared.Length.the-variants.{Refused}
 use Rattle.receive.specs.Fits.{receiveFits}
 use Rattle.receive.specs.Memory.{moveBufAt, answerAt, freedAt, handedAt, withTell, probeAt, widenedAt, sendWindow, receiveWindow, windowsAt}
-use Rattle.kcp.specs.Calls.{moveBufOf, RecvOut, outBy, recvOf, setWndsizeOf}
+use Rattle.kcp_receive.specs.Calls.{moveBufOf, RecvOut, outBy, recvOf, setWndsizeOf}
 
 -- what holds of either side holds of the choice
 by-pick : {A : Type 0} (P : A → Type 0) (t : Bool) (a b : A) → P a → P b → P (pick t a b)

@@ -17,7 +17,7 @@ use Rattle.block.specs.declared.refusal.Refusal.{Refusal}
 use Rattle.receive.specs.declared.Length.{Length}
 use Rattle.receive.specs.declared.Length.the-variants.{Is, Refused}
 use Rattle.receive.specs.Memory.{numberOfLength}
-use Rattle.kcp.specs.Calls.{moveBufOf, peeksizeOf, RecvOut, recvOf, setWndsizeOf}
+use Rattle.kcp_receive.specs.Calls.{moveBufOf, peeksizeOf, RecvOut, recvOf, setWndsizeOf}
 use Rattle.host_receive.proofs.Changes.{move-words, window-words, recv-words, recv-refused}
 use Rattle.host_receive.specs.Words.{Called, lengthIn, WordsPeeked, WordsReceived}
 

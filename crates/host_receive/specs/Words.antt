@@ -13,7 +13,7 @@ use Rattle.host.specs.Words.{setWords}
 use Rattle.receive.specs.declared.Length.{Length}
 use Rattle.receive.specs.declared.Length.the-variants.{Is, Refused}
 use Rattle.receive.specs.Memory.{numberOfLength}
-use Rattle.kcp.specs.Calls.{peeksizeOf, recvOf}
+use Rattle.kcp_receive.specs.Calls.{peeksizeOf, recvOf}
 
 -- of a call f that answers nothing but whether it was refused: its answer r for the words l, and what stands there afterwards
 pub record Called (f : Kcp → Set) (l : List ℕ) (r : ℕ) (after : List ℕ) : Type 0 where

@@ -3,7 +3,7 @@
 ghost use mathlib.Core.Path.{_≡_};
 ghost use Rattle.ring.specs.Lists.{lists};
 ghost use Rattle.receive.specs.Memory.{numberOfLength};
-ghost use Rattle.kcp.specs.Calls.{moveBufOf, setWndsizeOf};
+ghost use Rattle.kcp_receive.specs.Calls.{moveBufOf, setWndsizeOf};
 ghost use Rattle.host_receive.specs.Words.{Called, lengthIn, WordsPeeked, WordsReceived};
 use receive::Length;
 
@@ -34,7 +34,7 @@ pub fn move_buf(words: &mut [u32], records: &[u32], room: &[u8]) -> u32
     if !words::is_block(words) {
         return 15;
     }
-    let out = kcp::move_buf(words::block(words), records, room);
+    let out = kcp_receive::move_buf(words::block(words), records, room);
     let after = out.block;
     words::put_receiver(after.receiver, words);
     let answer = out.answer;
@@ -48,7 +48,7 @@ pub fn set_wndsize(words: &mut [u32], sndwnd: u16, rcvwnd: u16, records: &[u32],
     if !words::is_block(words) {
         return 15;
     }
-    let out = kcp::set_wndsize(words::block(words), sndwnd, rcvwnd, records, room);
+    let out = kcp_receive::set_wndsize(words::block(words), sndwnd, rcvwnd, records, room);
     words::put_windows(out.block, words);
     let answer = out.answer;
     answer.number()
@@ -61,7 +61,7 @@ pub fn peeksize(words: &[u32], records: &[u32], room: &[u8], length: &mut usize)
     if !words::is_block(words) {
         return 15;
     }
-    let answer = kcp::peeksize(words::block(words), records, room);
+    let answer = kcp_receive::peeksize(words::block(words), records, room);
     *length = length_in(*length, answer);
     number_of(answer)
 }
@@ -80,7 +80,7 @@ pub fn recv(
     if !words::is_block(words) {
         return 15;
     }
-    let out = kcp::recv(words::block(words), records, room, buf);
+    let out = kcp_receive::recv(words::block(words), records, room, buf);
     let answer = out.answer;
     let Length::Is { length: n } = answer else {
         return number_of(answer);

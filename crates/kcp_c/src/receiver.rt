@@ -4,7 +4,7 @@ ghost use mathlib.Core.Path.{_≡_};
 ghost use Rattle.ring.specs.Lists.{lists};
 ghost use Rattle.receive.specs.Fits.{receiveFits};
 ghost use Rattle.kcp_c.specs.Tests.{tested};
-ghost use Rattle.kcp.specs.Calls.{moveBufOf, setWndsizeOf};
+ghost use Rattle.kcp_receive.specs.Calls.{moveBufOf, setWndsizeOf};
 ghost use Rattle.host_receive.specs.Words.{Called, WordsPeeked, WordsReceived};
 
 // Moves held segments to the queue. 0, or 15.

@@ -1,5 +1,4 @@
--- What flush_ack, flush, update and check promise, at each of their tests; that their tests give what the functions below them ask; and that each
--- contract leaves one outcome only. Assumes nothing.
+-- What flush_ack, flush, update and check promise, at each of their tests; and that their tests give what the functions below them ask. Assumes nothing.
 use Prim.Native.Nat.{ℕ, _*_, _≤_}
 use native.Mathlib.Omega.{arith}
 use mathlib.Core.Path.{_≡_, refl, sym, ap, _∙_}
@@ -126,10 +125,6 @@ module _ (k : Kcp) (acks : List ℕ) (w : Writing) where
       unfolding flushAckOf
       ack-done h e = ack-promise (e ∙ sym (pick-true _ _ fit ∙ pick-true _ _ (not-false (k .clock .updated) h)))
 
--- any two outcomes that meet the contract coincide
-pub ack-once : {k : Kcp} {acks : List ℕ} {w : Writing} {o p : Out} → FlushesAck k acks w o → FlushesAck k acks w p → o ≡ p
-ack-once x y = x .is ∙ sym (y .is)
-
 -- ---- flush and update
 
 module _ (k : Kcp) (snd : Lists) (acks : List ℕ) (w : Writing) where
@@ -201,12 +196,6 @@ module _ (k : Kcp) (snd : Lists) (acks : List ℕ) (w : Writing) where
       unfolding updateOf
       update-done current e = update-promise current (e ∙ sym (pick-true _ _ all-well))
 
-pub flush-once : {k : Kcp} {snd : Lists} {acks : List ℕ} {w : Writing} {o p : FlushOut} → Flushes k snd acks w o → Flushes k snd acks w p → o ≡ p
-flush-once x y = x .is ∙ sym (y .is)
-
-pub update-once : {k : Kcp} {snd : Lists} {acks : List ℕ} {w : Writing} {current : ℕ} {o p : FlushOut} → Updates k snd acks w current o → Updates k snd acks w current p → o ≡ p
-update-once x y = x .is ∙ sym (y .is)
-
 -- ---- check
 
 module _ (k : Kcp) (snd : Lists) (current : ℕ) where
@@ -230,6 +219,3 @@ module _ (k : Kcp) (snd : Lists) (current : ℕ) where
       pub check-done : {n : ℕ} → n ≡ checkAt current k (storeOf 8 snd) → Checks k snd current (Is n)
       unfolding checkOf
       check-done e = check-promise (ap Is e ∙ sym (pick-true _ _ (sym tested ∙ not-false t passes)))
-
-pub check-once : {k : Kcp} {snd : Lists} {current : ℕ} {r s : Wait} → Checks k snd current r → Checks k snd current s → r ≡ s
-check-once x y = x .is ∙ sym (y .is)

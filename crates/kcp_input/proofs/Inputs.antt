@@ -1,4 +1,4 @@
--- What input promises, on each side of its tests; and that its contract leaves one outcome only. Assumes nothing.
+-- What input promises, on each side of its tests. Assumes nothing.
 use Prim.Native.Nat.{ℕ, _≤_, _<_, zero-le}
 use mathlib.Core.Path.{_≡_, sym, ap, _∙_}
 use mathlib.Core.Bool.{Bool, true, false, not}
@@ -66,8 +66,3 @@ module _ (k : Kcp) (rcv : Lists) (acks waiting : List ℕ) (snd : Lists) (s : Li
               values = ap (λ (o : ReadOut). valuesOfBytes (o .answer)) e ∙ read-values k rcv acks (storeOf 8 snd) s ∙ sym (pick-true _ _ fit ∙ pick-false _ _ n ∙ pick-false _ _ t);
               few = f;
             }
-
--- two outcomes that meet the contract are the same: the answer, the skipped pushes, the block, the memory of both sides and the ack list
-pub read-once : {k : Kcp} {rcv : Lists} {acks waiting : List ℕ} {snd : Lists} {s : List ℕ} {x y : ReadOut}
-    → Inputs k rcv acks waiting snd s x → Inputs k rcv acks waiting snd s y → x ≡ y
-read-once p q = p .is ∙ sym (q .is)

@@ -1,5 +1,4 @@
--- What the public call send promises, on either side of its test; that a send leaves what fits fitting; and that its contract leaves one outcome
--- only. Assumes nothing.
+-- What the public call send promises, on either side of its test; and that a send leaves what fits fitting. Assumes nothing.
 use Prim.Native.Nat.{ℕ}
 use mathlib.Core.Path.{_≡_, refl, sym, ap, _∙_}
 use mathlib.Core.Bool.{Bool, true, false, not}
@@ -87,8 +86,3 @@ send-fits k l bytes l′ fit e =
     let x = sendAt (k .settings .mss) (k .settings .stream) bytes (k .sender) (storeOf 8 l) in
     let left : storeOf 8 l′ ≡ x .store = e ∙ ap (λ (o : SendOut). o .store) (pick-true _ _ fit) in
     rw (pick-true _ _ fit) (exactly _ _ .tests (send-keeps k l (exactly k l .holds fit) (k .settings .stream) bytes l′ left))
-
--- ---- two outcomes that meet the contract are the same: the block, the answer and the memory
-
-pub sent-once : {k : Kcp} {l : Lists} {bytes : List ℕ} {r s : SendOut} → Sends k l bytes r → Sends k l bytes s → r ≡ s
-sent-once p q = p .is ∙ sym (q .is)

@@ -13,7 +13,7 @@ use Rattle.receive.specs.declared.Length.the-variants.{Is, Refused}
 use Rattle.receive.specs.Memory.{numberOfLength}
 use Rattle.receive.specs.Fits.{receiveFits}
 use Rattle.input.specs.Datagram.{ReadOut}
-use Rattle.kcp.specs.Calls.{RecvOut}
+use Rattle.kcp_receive.specs.Calls.{RecvOut}
 use Rattle.replay.specs.declared.table.Numbers.{Numbers}
 use Rattle.replay.specs.declared.calls.Made.{Made}
 use Rattle.replay.specs.Payload.{sumOf}

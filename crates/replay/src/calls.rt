@@ -7,7 +7,7 @@ ghost use Rattle.ring.specs.Lists.{lists};
 ghost use Rattle.receive.specs.Memory.{numberOfLength};
 ghost use Rattle.wire.specs.Header.{headerBytes};
 ghost use Rattle.block.specs.Refusals.{numberOfBytes};
-ghost use Rattle.kcp.specs.Calls.{moveBufOf, peeksizeOf, recvOf, setWndsizeOf};
+ghost use Rattle.kcp_receive.specs.Calls.{moveBufOf, peeksizeOf, recvOf, setWndsizeOf};
 ghost use Rattle.kcp_input.specs.Input.{inputOf};
 ghost use Rattle.replay.specs.Calls.{lengthIn, madeBySet, madeByLength, madeByRecv, madeByInput, pushHeader, heldIn, numbersOf};
 ghost use Rattle.replay.specs.Payload.{rising};
@@ -85,25 +85,25 @@ fn made_by_set(set: Set) -> Made
 fn move_buf(block: Kcp, records: &[u32], room: &[u8]) -> Made
     ensures { λ r. ⌜ r ≡ madeBySet (moveBufOf block (lists (now (records .entry)) (now (room .entry)))) ⌝ }
 {
-    made_by_set(kcp::move_buf(block, records, room))
+    made_by_set(kcp_receive::move_buf(block, records, room))
 }
 
 fn set_wndsize(block: Kcp, sndwnd: u16, rcvwnd: u16, records: &[u32], room: &[u8]) -> Made
     ensures { λ r. ⌜ r ≡ madeBySet (setWndsizeOf block (lists (now (records .entry)) (now (room .entry))) sndwnd rcvwnd) ⌝ }
 {
-    made_by_set(kcp::set_wndsize(block, sndwnd, rcvwnd, records, room))
+    made_by_set(kcp_receive::set_wndsize(block, sndwnd, rcvwnd, records, room))
 }
 
 fn peeksize(block: Kcp, records: &[u32], room: &[u8]) -> Made
     ensures { λ r. ⌜ r ≡ madeByLength block (peeksizeOf block (lists (now (records .entry)) (now (room .entry)))) 0 ⌝ }
 {
-    made_by_length(block, kcp::peeksize(block, records, room), 0)
+    made_by_length(block, kcp_receive::peeksize(block, records, room), 0)
 }
 
 fn recv(block: Kcp, records: &[u32], room: &[u8], buf: &mut [u8]) -> Made
     ensures { λ r. ⌜ r ≡ madeByRecv (recvOf block (lists (now (records .entry)) (now (room .entry))) (now (buf .entry))) ⌝ }
 {
-    let received = kcp::recv(block, records, room, buf);
+    let received = kcp_receive::recv(block, records, room, buf);
     let after = received.block;
     let answer = received.answer;
     made_by_length(after, answer, checksum(buf, length_of(answer)))

@@ -9,7 +9,7 @@ ghost use Rattle.ring.specs.Lists.{lists};
 ghost use Rattle.wire.specs.Header.{headerBytes};
 ghost use Rattle.block.specs.Refusals.{numberOfBytes, valuesOfBytes};
 ghost use Rattle.block.specs.Sizes.{mtuSize};
-ghost use Rattle.kcp.specs.Calls.{wndsizeNumber};
+ghost use Rattle.kcp_receive.specs.Calls.{wndsizeNumber};
 ghost use Rattle.kcp_input.specs.Input.{inputOf, inputNumber};
 use block::Kcp;
 use block::make::Made;
@@ -34,7 +34,7 @@ fn write_row(called: &[u8], number: u32) {
 fn wndsize_number(block: Kcp, sndwnd: u16, rcvwnd: u16, records: &[u32], room: &[u8]) -> u32
     ensures { λ r. ⌜ r ≡ wndsizeNumber block (lists (now (records .entry)) (now (room .entry))) rcvwnd ⌝ }
 {
-    let set = kcp::set_wndsize(block, sndwnd, rcvwnd, records, room);
+    let set = kcp_receive::set_wndsize(block, sndwnd, rcvwnd, records, room);
     let answer = set.answer;
     answer.number()
 }

@@ -1,11 +1,11 @@
--- `kcp::peeksize` meets its contract. Assumes nothing.
+-- `kcp_receive::peeksize` meets its contract. Assumes nothing.
 use borrow.Author.Tests.{not-false}
 use Rattle.ring.specs.Lists.{lists}
 use Rattle.receive.proofs.Exact.{good-lies, own-receiver, fits-tested}
-use Rattle.kcp.proofs.Outcomes.{unpeeked, peeks}
+use Rattle.kcp_receive.proofs.Outcomes.{unpeeked, peeks}
 use borrow.Author.Needs.{needs}
-use Rattle.kcp.proofs.peeksize.Statement.{statement}
-use Rattle.kcp.proofs.peeksize.Tie as tie
+use Rattle.kcp_receive.proofs.peeksize.Statement.{statement}
+use Rattle.kcp_receive.proofs.peeksize.Tie as tie
 
 own-numbers-requires : tie.Need-own-numbers-requires
 own-numbers-requires c κs = search needs

@@ -1,11 +1,11 @@
--- `kcp::move_buf` meets its contract. Assumes nothing.
+-- `kcp_receive::move_buf` meets its contract. Assumes nothing.
 use borrow.Author.Tests.{not-false}
 use Rattle.ring.specs.Lists.{lists}
 use Rattle.receive.proofs.Exact.{good-lies, own-receiver, fits-tested}
-use Rattle.kcp.proofs.Outcomes.{unmoved, moved}
+use Rattle.kcp_receive.proofs.Outcomes.{unmoved, moved}
 use borrow.Author.Needs.{needs}
-use Rattle.kcp.proofs.move_buf.Statement.{statement}
-use Rattle.kcp.proofs.move_buf.Tie as tie
+use Rattle.kcp_receive.proofs.move_buf.Statement.{statement}
+use Rattle.kcp_receive.proofs.move_buf.Tie as tie
 
 own-numbers-requires : tie.Need-own-numbers-requires
 own-numbers-requires c κs = search needs

@@ -1,5 +1,4 @@
--- What each public call promises, on either side of its tests; and that a contract leaves one outcome only: two that meet it are the same.
--- Assumes nothing.
+-- What each public call promises, on either side of its tests. Assumes nothing.
 use Prim.Native.Nat.{ℕ}
 use mathlib.Core.Path.{_≡_, refl, sym, ap, _∙_}
 use mathlib.Core.Bool.{Bool, true, false, not}
@@ -22,7 +21,7 @@ use Rattle.receive.specs.declared.Length.{Length}
 use Rattle.receive.specs.declared.Length.the-variants.{Is, Refused}
 use Rattle.receive.specs.Memory.{RecvSide, moveBufAt, peekAt, answerAt, recvBy, recvAt, probeAt, lengthAnswer, numberIn, valuesIn, numberOfLength, valuesOfLength, windowsAt}
 use Rattle.receive.specs.Fits.{receiveFits}
-use Rattle.kcp.specs.Calls.{badPool, moveBufOf, Promised, peeksizeOf, Peeked, handedOver, RecvOut, unhanded, outBy, recvOf, Receives, setWndsizeOf, wndsizeNumber}
+use Rattle.kcp_receive.specs.Calls.{badPool, moveBufOf, Promised, peeksizeOf, Peeked, handedOver, RecvOut, unhanded, outBy, recvOf, Receives, setWndsizeOf, wndsizeNumber}
 
 -- ---- an answer of the rules, and the answer that is told, have the same number and the same values
 
@@ -152,17 +151,3 @@ module _ (k : Kcp) (l : Lists) where
         refusal = ap (λ (s : Set). numberOfAnswer (s .answer)) e ∙ window-number _ refl ∙ sym (pick-true _ _ fit);
         values = ap (λ (s : Set). valuesOfAnswer (s .answer)) e ∙ window-values _ refl;
       }
-
--- ---- two outcomes that meet a contract are the same
-
--- `move_buf` and `set_wndsize`
-pub set-once : {o : Set} {n : ℕ} {r s : Set} → Promised o n r → Promised o n s → r ≡ s
-set-once p q = p .is ∙ sym (q .is)
-
--- peeksize
-pub peeked-once : {k : Kcp} {l : Lists} {r s : Length} → Peeked k l r → Peeked k l s → r ≡ s
-peeked-once p q = p .is ∙ sym (q .is)
-
--- recv: with the buffer that it leaves
-pub received-once : {k : Kcp} {l : Lists} {buf : List ℕ} {r s : RecvOut} → Receives k l buf r → Receives k l buf s → r ≡ s
-received-once p q = p .is ∙ sym (q .is)

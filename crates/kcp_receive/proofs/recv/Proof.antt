@@ -1,11 +1,11 @@
--- `kcp::recv` meets its contract. Assumes nothing.
+-- `kcp_receive::recv` meets its contract. Assumes nothing.
 use borrow.Author.Tests.{not-false}
 use Rattle.ring.specs.Lists.{lists}
 use Rattle.receive.proofs.Exact.{own-receiver, fits-tested}
-use Rattle.kcp.proofs.Outcomes.{unreceived, refuses, received}
+use Rattle.kcp_receive.proofs.Outcomes.{unreceived, refuses, received}
 use borrow.Author.Needs.{needs}
-use Rattle.kcp.proofs.recv.Statement.{statement}
-use Rattle.kcp.proofs.recv.Tie as tie
+use Rattle.kcp_receive.proofs.recv.Statement.{statement}
+use Rattle.kcp_receive.proofs.recv.Tie as tie
 
 own-numbers-requires : tie.Need-own-numbers-requires
 own-numbers-requires c κs = search needs

@@ -1,10 +1,10 @@
--- `kcp::set_wndsize` meets its contract. Assumes nothing.
+-- `kcp_receive::set_wndsize` meets its contract. Assumes nothing.
 use Rattle.ring.specs.Lists.{lists}
 use Rattle.receive.proofs.Exact.{own-receiver, fits-tested}
-use Rattle.kcp.proofs.Outcomes.{unset, windowed}
+use Rattle.kcp_receive.proofs.Outcomes.{unset, windowed}
 use borrow.Author.Needs.{needs}
-use Rattle.kcp.proofs.set_wndsize.Statement.{statement}
-use Rattle.kcp.proofs.set_wndsize.Tie as tie
+use Rattle.kcp_receive.proofs.set_wndsize.Statement.{statement}
+use Rattle.kcp_receive.proofs.set_wndsize.Tie as tie
 
 own-numbers-requires : tie.Need-own-numbers-requires
 own-numbers-requires c κs = search needs
