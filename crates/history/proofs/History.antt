@@ -29,9 +29,10 @@ use Rattle.receive.proofs.Windows.{seen-fresh, fresh-good}
 use Rattle.transmit.specs.Fits.{sendFits}
 use Rattle.kcp.specs.Calls.{recvOf}
 use Rattle.kcp_input.specs.Input.{inputFits}
+use Rattle.kcp_flush.specs.Calls.{ackFits, flushFits}
 use Rattle.history.specs.History.{Call, Memory, seenIn, History, step, run, begun, SoundCalls}
 use Rattle.history.proofs.Rising.{fresh-flies}
-use Rattle.history.proofs.Memory.{Fine, follows, receive-fits, send-fits, input-fits, received-bytes}
+use Rattle.history.proofs.Memory.{Fine, follows, receive-fits, send-fits, input-fits, ack-fits, flush-fits, received-bytes}
 
 -- what every call keeps
 record Kept (h : History) : Type 0 where
@@ -61,6 +62,7 @@ kept-sound h kept = record {
   sound = inv-sound (length (h .now .rcv .records)) (h .past) (kept .inv);
   slots = rw (seen-queued (h .now .block .receiver) (h .now .rcv), seen-held (h .now .block .receiver) (h .now .rcv));
   rising = kept .fine .flies .order;
+  near = kept .fine .flies .near;
 }
 
 -- ---- from a fresh block
@@ -70,6 +72,8 @@ pub record NeverBad (m : Memory) : Type 0 where
   pub receives : receiveFits (m .block) (m .rcv) ≡ true
   pub sends : sendFits (m .block) (m .snd) ≡ true
   pub inputs : inputFits (m .block) (m .rcv) (m .acks) (m .waiting) (m .snd) ≡ true
+  pub acknowledges : ackFits (m .block) (m .acks) (m .waiting) ≡ true
+  pub flushes : flushFits (m .block) (m .snd) (m .acks) (m .waiting) ≡ true
 
 abbrev pub HandsBytes : Memory → List ℕ → Type 0
 HandsBytes m buf = recvOf (m .block) (m .rcv) buf .buf ≡ put buf 0 (joined (payloads (ruleHands (eventRecv (length buf)) (seenIn m))))
@@ -117,7 +121,8 @@ module _ (conv : ℕ) (stream : Bool) (interval : ℕ) (p : Lists) (acks waiting
           own = fresh-fits conv stream interval;
           sound = fresh-sound q y;
           send-sizes = y;
-          flies = fresh-flies freshSender (storeOf 8 q) (omega arith) (omega arith) refl;
+          flies = fresh-flies freshSender (storeOf 8 q) (omega arith) refl refl;
+          window = omega arith;
           ack-memory = ack-sizes (length acks) (length waiting) .holds ack;
           few = zero-le;
         };
@@ -132,7 +137,9 @@ module _ (conv : ℕ) (stream : Bool) (interval : ℕ) (p : Lists) (acks waiting
 
   -- none of the calls is refused by 15
   pub never-bad : (calls : List Call) → NeverBad (run (begun (freshIn conv stream interval p acks waiting q)) calls .now)
-  never-bad calls = let x = kept calls .fine in record { receives = receive-fits _ x; sends = send-fits _ x; inputs = input-fits _ x }
+  never-bad calls =
+      let x = kept calls .fine in
+      record { receives = receive-fits _ x; sends = send-fits _ x; inputs = input-fits _ x; acknowledges = ack-fits _ x; flushes = flush-fits _ x }
 
   -- what recv puts into the buffer are the payloads of the segments that the history says are handed out
   pub handed-bytes : (calls : List Call) (buf : List ℕ) → HandsBytes (run (begun (freshIn conv stream interval p acks waiting q)) calls .now) buf

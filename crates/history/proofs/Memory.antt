@@ -1,6 +1,6 @@
 -- What every call keeps of the block and its lent memory, so that no call is refused by 15; and that a call does to the receive side what its
 -- events do. Assumes nothing.
-use Prim.Native.Nat.{ℕ, _≤_, _<_, _^_}
+use Prim.Native.Nat.{ℕ, _≤_, _<_, _^_, zero-le}
 use native.Mathlib.Omega.{arith}
 use mathlib.Core.Path.{_≡_, refl, sym, ap, _∙_, subst}
 use mathlib.Core.Bool.{Bool, true, false, _&&_}
@@ -11,24 +11,29 @@ use borrow.Author.Tests.{leb-true, leb-false, lt-ltb, le-ltb}
 use Rattle.serial.specs.Branch.{pick-true, pick-false}
 use Rattle.ring.specs.Lists.{Lists}
 use Rattle.ring.specs.Records.{put}
+use Rattle.ring.proofs.Rows.{put-length}
 use Rattle.snd_ring.specs.Store.{Store, storeOf, Sound}
 use Rattle.snd_ring.proofs.Splits.{marks-length}
 use Rattle.wire.specs.LittleEndian.{Octets}
 use Rattle.block.specs.declared.Kcp.{Kcp}
 use Rattle.block.specs.declared.set.Set.{Set}
+use Rattle.block.specs.declared.clock.Clock.{Clock}
+use Rattle.block.specs.declared.congestion.Congestion.{Congestion}
 use Rattle.block.specs.declared.probe.Probe.{Probe}
 use Rattle.block.specs.declared.receiver.Receiver.{Receiver}
 use Rattle.block.specs.declared.acklist.AckList.{AckList}
 use Rattle.block.specs.declared.sender.Sender.{Sender}
-use Rattle.block.specs.Parts.{withReceiver, withSender}
+use Rattle.block.specs.declared.refusal.Refusal.{Refusal}
+use Rattle.block.specs.declared.refusal.Refusal.the-variants.{NeedUpdate, OutTooSmall, BadPool}
+use Rattle.block.specs.Parts.{withClock, withReceiver, withSender}
 use Rattle.block.specs.Sizes.{RingSizes, sendSlots, AckSizes, pairs, mtuSize}
-use Rattle.block.specs.WellFormed.{SettingsFit, ProbeFits, AckListFits, SenderFits, OwnNumbers, ackLent}
+use Rattle.block.specs.WellFormed.{SettingsFit, ProbeFits, AckListFits, SenderFits, OwnNumbers}
 use Rattle.block.specs.Setters.{setMtu}
-use Rattle.block.proofs.Exact.{exactly-within, exactly-le, own-numbers, ack-sizes}
+use Rattle.block.proofs.Exact.{exactly-within, own-numbers, acks-exactly}
 use Rattle.receiving.specs.Rules.{Answer, empty, expecting, longer, gives, payloads, joined, given, tooLarge, tells}
 use Rattle.receiving.specs.History.{Event, eventRecv, eventMove, eventWindow, AllSmall, runFrom, leaves as ruleLeaves, hands as ruleHands, step as ruleStep}
 use Rattle.receiving.specs.History as rules
-use Rattle.receive.specs.Memory.{seen, messageAt, bytesAt, recvBy, recvAt, answerAt, handedAt, moveBufAt, probeAt, widenedAt, receiveWindow, windowsAt}
+use Rattle.receive.specs.Memory.{seen, messageAt, bytesAt, recvBy, recvAt, answerAt, handedAt, moveBufAt, probeAt, widenedAt, sendWindow, receiveWindow, windowsAt}
 use Rattle.receive.specs.Fits.{receiveFits, ReceiveFits, Good}
 use Rattle.receive.proofs.Seen.{message-queued, seen-answer, seen-message, seen-bytes, seen-recv, recv-good, recv-next, seen-moveBuf, move-good, move-next}
 use Rattle.receive.proofs.Windows.{seen-window, window-good}
@@ -39,17 +44,29 @@ use Rattle.send.specs.Memory.{sendAt}
 use Rattle.transmit.proofs.Seen.{AsLarge, fastack-sound, fastack-slots}
 use Rattle.transmit.proofs.Exact.{exactly as send-exactly, lent-exactly as send-lent-exactly, fits-of as send-fits-of, sound-of, sender-fits-of}
 use Rattle.send.proofs.Keep.{send-sound, send-keeps, send-asks}
+use Rattle.flushing.specs.Clocks.{ticked}
+use Rattle.flushing.specs.Rules.{flushed}
+use Rattle.flushing.proofs.Calls.{probe-fits}
+use Rattle.flushing.specs.Pack.{pack}
+use Rattle.packing.specs.Acks.{acksOf, ackBytes}
+use Rattle.packing.specs.FlushAck.{Writing}
+use Rattle.packing.proofs.Laying.{put-none}
+use Rattle.output.specs.Memory.{outgoing, toldOf, Out, movedAt, flownStore, afterFlush, FlushOut, flushAckAt, flushAt, updateAt}
+use Rattle.output.proofs.AckFlush.{rest-small}
 use Rattle.input.specs.Segment.{Met, End, through, stopped}
 use Rattle.input.specs.Datagram.{ReadOut, metOf, finished, walkOf, readAt}
 use Rattle.kcp.specs.Calls.{moveBufOf, outBy, recvOf, setWndsizeOf, RecvOut}
 use Rattle.kcp_send.specs.Send.{SendOut, sendOf}
 use Rattle.kcp_input.specs.Input.{inputFits, inputOf}
-use Rattle.history.specs.History.{Call, callInput, callSend, callMoveBuf, callPeeksize, callRecv, callSetWndsize, callSetMtu, callSetInterval, callSetNodelay, callSetRxMinrto, callSetFastResend, callSetMaximumResendTimes, callInputConv, callSetConv, callGet, listsOf, Memory, withBlock, leaves, seenIn, unlessBad, events}
+use Rattle.kcp_flush.specs.Calls.{ackFits, flushFits, flushAckOf, unflushed, flushOf, updateOf}
+use Rattle.kcp_flush.proofs.Calls.{ack-exactly, flush-exactly}
+use Rattle.history.specs.History.{Call, callInput, callSend, callMoveBuf, callPeeksize, callRecv, callFlushAck, callFlush, callUpdate, callCheck, callSetWndsize, callSetMtu, callSetInterval, callSetNodelay, callSetRxMinrto, callSetFastResend, callSetMaximumResendTimes, callInputConv, callSetConv, callGet, listsOf, Memory, withBlock, toWrite, flushedTo, leaves, seenIn, unlessBad, events}
 use Rattle.history.specs.Pushes.{pushesOf}
 use Rattle.history.proofs.Segments.{pick-of}
-use Rattle.history.proofs.Rising.{Flies, fastack-flies, send-flies}
+use Rattle.history.proofs.Rising.{Flies, fastack-flies, send-flies, flush-flies}
 use Rattle.history.proofs.Stores.{lists-back, store-back, sizes-back}
 use Rattle.history.proofs.Walks.{seenMet, Fit, Stays, walks, pushes-small, walk-runs}
+use Rattle.history.proofs.Flushes.{flush-window, input-window, out-sound, out-large}
 
 -- all that the tests for 15 ask of the block and its lent memory; and the numbers in flight rise
 pub record Fine (m : Memory) : Type 0 where
@@ -60,6 +77,8 @@ pub record Fine (m : Memory) : Type 0 where
   pub sound : Sound 8 (m .block .sender .ring) (storeOf 8 (m .snd))
   pub send-sizes : RingSizes 128 1024 (sendSlots (length (m .snd .records))) 9 (length (m .snd .records)) (length (m .snd .room))
   pub flies : Flies (m .block .sender) (storeOf 8 (m .snd))
+  -- a send window has 16 bits, so that the numbers in flight never come round
+  pub window : m .block .congestion .«snd_wnd» < 65536
   -- the limits of the ack memory, and "at most A acks"
   pub ack-memory : AckSizes (length (m .acks)) (length (m .waiting))
   pub few : m .block .acklist .acks ≤ pairs (length (m .acks))
@@ -102,17 +121,20 @@ module _ (m : Memory) (f : Fine m) where
   pub send-fits : sendFits (m .block) (m .snd) ≡ true
   send-fits = send-exactly (m .block) (m .snd) .tests fits-send
 
-  ack-fits : ackLent (m .block .acklist) (m .acks) (m .waiting) ≡ true
-  unfolding ackLent
-  ack-fits =
-      rw (ack-sizes (length (m .acks)) (length (m .waiting)) .tests (f .ack-memory))
-      (exactly-le (m .block .acklist .acks) (pairs (length (m .acks))) .tests (f .few))
+  fits-acks : AckSizes (length (m .acks)) (length (m .waiting)) × (m .block .acklist .acks ≤ pairs (length (m .acks)))
+  fits-acks = (f .ack-memory, f .few)
 
   pub input-fits : inputFits (m .block) (m .rcv) (m .acks) (m .waiting) (m .snd) ≡ true
   unfolding inputFits
   input-fits =
       rw (own-numbers (m .block) .tests (f .own), lent-exactly (m .block .receiver) (m .rcv) .tests (fits-receive .lent), send-lent-exactly (m .block .sender) (m .snd) .tests (fits-send .lent))
-      ack-fits
+      (acks-exactly (m .block .acklist) (m .acks) (m .waiting) .tests fits-acks)
+
+  pub ack-fits : ackFits (m .block) (m .acks) (m .waiting) ≡ true
+  ack-fits = ack-exactly (m .block) (m .acks) (m .waiting) .tests (f .own, fits-acks)
+
+  pub flush-fits : flushFits (m .block) (m .snd) (m .acks) (m .waiting) ≡ true
+  flush-fits = flush-exactly (m .block) (m .acks) (m .waiting) (m .snd) .tests (f .own, (fits-send .lent, fits-acks))
 
 -- ---- the calls
 
@@ -122,6 +144,7 @@ record Beside (k n : Kcp) : Type 0 where
   probe : ProbeFits (k .probe) → ProbeFits (n .probe)
   acklist : n .acklist ≡ k .acklist
   sender : n .sender ≡ k .sender
+  window : k .congestion .«snd_wnd» < 65536 → n .congestion .«snd_wnd» < 65536
 
 module _ (m : Memory) (f : Fine m) where
   abbrev k : Kcp
@@ -134,8 +157,8 @@ module _ (m : Memory) (f : Fine m) where
   most = f .sizes .few .high
 
   -- the block's numbers beside the receive side that the test for 15 looks at
-  abbrev aside : Kcp → ℕ × ℕ × Probe × AckList × Sender
-  aside n = (n .settings .mtu, n .settings .mss, n .probe, n .acklist, n .sender)
+  abbrev aside : Kcp → ℕ × ℕ × Probe × AckList × Sender × ℕ
+  aside n = (n .settings .mtu, n .settings .mss, n .probe, n .acklist, n .sender, n .congestion .«snd_wnd»)
 
   unmoved : {n : Kcp} → aside n ≡ aside k → Beside k n
   unmoved e =
@@ -146,6 +169,7 @@ module _ (m : Memory) (f : Fine m) where
         probe = λ p. subst ProbeFits (sym (ap (λ x. x .2) e)) p;
         acklist = ap (λ x. x .3) e;
         sender = ap (λ x. x .4) e;
+        window = λ w. rw (ap (λ x. x .5) e) w;
       }
 
   fine-beside : {n : Kcp} → Beside k n → Good (n .receiver) (m .rcv) → n .receiver .«rcv_nxt» < 2 ^ 32 → Fine (withBlock m n)
@@ -163,21 +187,27 @@ module _ (m : Memory) (f : Fine m) where
     sound = subst (λ (s : Sender). Sound 8 (s .ring) (storeOf 8 (m .snd))) (sym (b .sender)) (f .sound);
     send-sizes = f .send-sizes;
     flies = subst (λ (s : Sender). Flies s (storeOf 8 (m .snd))) (sym (b .sender)) (f .flies);
+    window = b .window (f .window);
     ack-memory = f .ack-memory;
     few = subst (λ (a : AckList). a .acks ≤ pairs (length (m .acks))) (sym (b .acklist)) (f .few);
   }
 
-  -- a call that leaves the receive side as it is
-  still : (c : Call) (n : Kcp) → Beside k n → n .receiver ≡ k .receiver → leaves c m ≡ withBlock m n → events c m ≡ [] → To c m (withBlock m n) []
+  -- what a call leaves that does nothing to the receive side
+  record Aside (n : Memory) : Type 0 where
+    fine : Fine n
+    rcv : n .rcv ≡ m .rcv
+    receiver : n .block .receiver ≡ k .receiver
+
+  beside : {c : Call} {n : Memory} → leaves c m ≡ n → events c m ≡ [] → Aside n → To c m n []
   unfolding runFrom
-  still c n b same is none = record {
-    is = is;
-    has = none;
-    fine = fine-beside b (rw same (f .good)) (rw same (f .low));
-    slots = refl;
-    small = tt;
-    sees = λ r e. rw same e;
-  }
+  beside is none a = record { is = is; has = none; fine = a .fine; slots = rw (a .rcv); small = tt; sees = λ r e. rw (a .rcv, a .receiver) e }
+
+  still : (c : Call) (n : Kcp) → Beside k n → n .receiver ≡ k .receiver → leaves c m ≡ withBlock m n → events c m ≡ [] → To c m (withBlock m n) []
+  still c n b same is none = beside is none (record { fine = fine-beside b (rw same (f .good)) (rw same (f .low)); rcv = refl; receiver = same })
+
+  -- the lists of the send side as they were
+  as-it-was : record { block = k; rcv = m .rcv; acks = m .acks; waiting = m .waiting; snd = listsOf (storeOf 8 (m .snd)) } ≡ m
+  as-it-was = ap (λ (l : Lists). record { block = k; rcv = m .rcv; acks = m .acks; waiting = m .waiting; snd = l }) (lists-back (m .snd))
 
   -- one event
   once : (x : Event) (r : rules.Past) (n : Memory) → r .now ≡ seenIn m → ruleLeaves slots x (seenIn m) ≡ seenIn n → runFrom slots r (x ∷ []) .now ≡ seenIn n
@@ -198,16 +228,22 @@ module _ (m : Memory) (f : Fine m) where
     sees = λ r e. once eventMove r (withBlock m (withReceiver k (moveBufAt (k .receiver) (m .rcv .records)))) e (sym (seen-moveBuf (f .good) (f .low)));
   }
 
-  module _ (sndwnd rcvwnd : ℕ) where
+  module _ (sndwnd : ℕ) (small : sndwnd < 65536) (rcvwnd : ℕ) where
     abbrev windowed : Kcp
     windowed = windowsAt slots k sndwnd rcvwnd .block
 
     window-beside : Beside k (windowsAt slots k sndwnd rcvwnd .block)
-    unfolding windowsAt
+    unfolding windowsAt sendWindow
     window-beside =
         pick-of (λ (s : Set). Beside k (s .block)) (tooLarge slots rcvwnd)
         (λ h. unmoved refl)
-        (unmoved refl)
+        (record {
+          settings = λ s. s;
+          probe = λ p. p;
+          acklist = refl;
+          sender = refl;
+          window = λ w. pick-of (λ (c : Congestion). c .«snd_wnd» < 65536) (ltb 0 sndwnd) (λ h. small) w;
+        })
 
     window-next : windowsAt slots k sndwnd rcvwnd .block .receiver .«rcv_nxt» < 2 ^ 32
     unfolding windowsAt receiveWindow widenedAt
@@ -216,7 +252,7 @@ module _ (m : Memory) (f : Fine m) where
         (λ h. f .low)
         (pick-of (λ (r : Receiver). r .«rcv_nxt» < 2 ^ 32) (ltb 0 rcvwnd) (λ h. f .low) (f .low))
 
-    windows : To (callSetWndsize sndwnd rcvwnd) m (withBlock m windowed) (eventWindow rcvwnd ∷ [])
+    windows : To (callSetWndsize sndwnd small rcvwnd) m (withBlock m windowed) (eventWindow rcvwnd ∷ [])
     unfolding leaves events setWndsizeOf ruleLeaves
     windows = record {
       is = ap (λ (s : Set). withBlock m (s .block)) (pick-true _ _ (receive-fits m f));
@@ -241,6 +277,7 @@ module _ (m : Memory) (f : Fine m) where
       probe = λ p. pick-of ProbeFits (tells (k .receiver .«rcv_wnd») (k .receiver .ring .queued) (handedAt (k .receiver) (m .rcv .records) .ring .queued)) (λ h. record { wait = p .wait }) p;
       acklist = refl;
       sender = refl;
+      window = λ w. w;
     }
 
     out-by : (a : Answer) → outBy a k (m .rcv) buf .block .receiver ≡ recvBy a (k .receiver) (m .rcv) buf .receiver
@@ -295,15 +332,14 @@ module _ (m : Memory) (f : Fine m) where
     after = sendAt (k .settings .mss) (k .settings .stream) bytes (k .sender) (storeOf 8 (m .snd))
 
     sends : To (callSend bytes) m (record { block = withSender k (after .sender); rcv = m .rcv; acks = m .acks; waiting = m .waiting; snd = listsOf (after .store) }) []
-    unfolding leaves events sendOf runFrom
+    unfolding leaves events sendOf
     sends =
         let narrow = send-asks k (m .snd) (fits-send m f) .1 .1 in
         let sound = send-sound (k .settings .mss) (k .settings .stream) bytes (k .sender) (storeOf 8 (m .snd)) (f .sound) narrow in
         let back = store-back (after .store) (sound .shaped .sized) in
         let kept = send-keeps k (m .snd) (fits-send m f) (k .settings .stream) bytes (listsOf (after .store)) back in
-        record {
-          is = ap sent (pick-true _ _ (send-fits m f));
-          has = refl;
+        beside (ap sent (pick-true _ _ (send-fits m f))) refl
+        (record {
           fine = record {
             good = f .good;
             low = f .low;
@@ -312,13 +348,125 @@ module _ (m : Memory) (f : Fine m) where
             sound = sound-of kept;
             send-sizes = kept .lent .sizes;
             flies = subst (Flies (after .sender)) (sym back) (send-flies (k .sender) (storeOf 8 (m .snd)) (f .sound) (f .flies) (k .settings .mss) (k .settings .stream) bytes narrow);
+            window = f .window;
             ack-memory = f .ack-memory;
             few = f .few;
           };
-          slots = refl;
-          small = tt;
-          sees = λ r g. g;
-        }
+          rcv = refl;
+          receiver = refl;
+        })
+
+  -- ---- flush_ack, flush and update
+
+  module _ (out lengths : List ℕ) where
+    abbrev w : Writing
+    w = toWrite m out lengths
+
+    -- refused, or written
+    unsent-aside : Aside m
+    unsent-aside = record { fine = f; rcv = refl; receiver = refl }
+
+    abbrev ackedTo : Out → Memory
+    ackedTo o = record { block = o .block; rcv = m .rcv; acks = m .acks; waiting = o .written .waiting; snd = m .snd }
+
+    acks-sent : To (callFlushAck out lengths) m (ackedTo (flushAckOf k (m .acks) w)) []
+    unfolding leaves events flushAckOf flushAckAt
+    acks-sent =
+        let kept = f .ack-memory .kept in
+        let rest = pack (k .settings .mtu) (take (k .acklist .waiting) (m .waiting)) (ackBytes (toldOf k) (acksOf (m .acks) (k .acklist .acks))) .1 in
+        let small : length rest ≤ 1500 = rest-small k (m .acks) w (f .own .settings .mtu .high) (f .own .acklist .waiting) kept in
+        beside refl refl
+        (pick-of Fit _
+        (λ _. pick-of Fit _
+        (λ _. pick-of Fit _ (λ _. unsent-aside)
+        (record {
+          fine = record {
+            good = f .good;
+            low = f .low;
+            sizes = f .sizes;
+            own = record { settings = f .own .settings; probe = f .own .probe; receiver = f .own .receiver; sender = f .own .sender; acklist = record { acks = zero-le; waiting = small } };
+            sound = f .sound;
+            send-sizes = f .send-sizes;
+            flies = f .flies;
+            window = f .window;
+            ack-memory = rw (put-length (m .waiting) 0 rest (omega arith)) (f .ack-memory);
+            few = zero-le;
+          };
+          rcv = refl;
+          receiver = refl;
+        }))
+        unsent-aside)
+        unsent-aside)
+      where
+        Fit : Out → Type 0
+        Fit o = Aside (ackedTo o)
+
+    abbrev Flown : FlushOut → Type 0
+    Flown o = Aside (flushedTo m o)
+
+    unflown : (why : Refusal) → Flown (unflushed k (m .snd) w why)
+    unflown why = subst Aside (sym as-it-was) unsent-aside
+
+    -- the block as the flush finds it: the clock may have moved on
+    module _ (c : Clock) where
+      abbrev b : Kcp
+      b = withClock k c
+
+      abbrev st : Store
+      st = storeOf 8 (m .snd)
+
+      abbrev done : Kcp
+      done = afterFlush b (movedAt b st .sender .ring) (flushed (outgoing b st (m .acks) (m .waiting)) .after)
+
+      flown : Fine (record { block = done; rcv = m .rcv; acks = m .acks; waiting = m .waiting; snd = listsOf (flownStore b st) })
+      unfolding flushed outgoing
+      flown =
+          let sound = out-sound b st (f .sound) in
+          let back = store-back (flownStore b st) (sound .shaped .sized) in
+          let large = out-large b st (f .sound) in
+          let slim = f .send-sizes .few .high in
+          let marks = large .marks ∙ marks-length 8 (m .snd) in
+          record {
+            good = f .good;
+            low = f .low;
+            sizes = f .sizes;
+            own = record {
+              settings = f .own .settings;
+              probe = record { wait = probe-fits (c .current) (k .probe) (f .own .probe) (k .congestion .«rmt_wnd») .wait };
+              receiver = f .own .receiver;
+              sender = sender-fits-of (done .sender) (flownStore b st) sound (omega arith);
+              acklist = record { acks = zero-le; waiting = zero-le };
+            };
+            sound = rw back sound;
+            send-sizes = sizes-back (m .snd) (flownStore b st) large (f .send-sizes);
+            flies = rw back (flush-flies b st (m .acks) (m .waiting) (f .sound) (f .flies) (f .window));
+            window = rw (flush-window (k .settings .mss) (k .congestion) _ _ _ _ _) (f .window);
+            ack-memory = f .ack-memory;
+            few = zero-le;
+          }
+
+      flush-aside : Flown (flushAt k b st (m .acks) w)
+      unfolding flushAt
+      flush-aside =
+          pick-of Flown _ (λ _. unflown OutTooSmall)
+          (subst (λ (l : List ℕ). Aside (record { block = done; rcv = m .rcv; acks = m .acks; waiting = l; snd = listsOf (flownStore b st) })) (sym (put-none (m .waiting) 0))
+          (record { fine = flown; rcv = refl; receiver = refl }))
+
+    flushes : To (callFlush out lengths) m (flushedTo m (flushOf k (m .snd) (m .acks) w)) []
+    unfolding leaves events flushOf
+    flushes =
+        beside refl refl (pick-of Flown _ (λ _. pick-of Flown _ (λ _. flush-aside (k .clock)) (unflown NeedUpdate)) (unflown BadPool))
+
+    updates : (current : ℕ) → To (callUpdate current out lengths) m (flushedTo m (updateOf k (m .snd) (m .acks) w current)) []
+    unfolding leaves events updateOf updateAt
+    updates current =
+        let c = ticked (k .clock) current .clock in
+        beside refl refl
+        (pick-of Flown _
+        (λ _. pick-of Flown _ (λ _. flush-aside c)
+        (subst Aside (ap (λ (l : Lists). record { block = withClock k c; rcv = m .rcv; acks = m .acks; waiting = m .waiting; snd = l }) (sym (lists-back (m .snd))))
+        (record { fine = fine-beside (unmoved refl) (f .good) (f .low); rcv = refl; receiver = refl })))
+        (unflown BadPool))
 
   -- ---- input
 
@@ -335,10 +483,10 @@ module _ (m : Memory) (f : Fine m) where
     -- what a walk leaves is fine, with a send store that is sound
     module _ (n : Met) (x : Stays start n) where
       fine-met : (b : Kcp) → b .settings ≡ n .block .settings → b .receiver ≡ n .block .receiver → b .acklist ≡ n .block .acklist → b .probe ≡ n .block .probe
-          → b .sender ≡ n .block .sender
+          → b .sender ≡ n .block .sender → b .congestion .«snd_wnd» ≡ n .block .congestion .«snd_wnd»
           → (q : Store) → Sound 8 (n .block .sender .ring) q → Flies (n .block .sender) q → AsLarge (n .snd) q
           → Fine (record { block = b; rcv = n .rcv; acks = n .acks; waiting = m .waiting; snd = listsOf q })
-      fine-met b settings receiver acklist probe sender q sound flies large =
+      fine-met b settings receiver acklist probe sender window q sound flies large =
           let back = store-back q (sound .shaped .sized) in
           let whole : AsLarge (storeOf 8 (m .snd)) q =
           record { marks = large .marks ∙ x .kept .snd .marks; rows = large .rows ∙ x .kept .snd .rows; room = large .room ∙ x .kept .snd .room } in
@@ -361,6 +509,7 @@ module _ (m : Memory) (f : Fine m) where
             sound = rw (sender, back) sound;
             send-sizes = sizes-back (m .snd) q whole (f .send-sizes);
             flies = rw (sender, back) flies;
+            window = rw (window, x .kept .window) (f .window);
             ack-memory = rw (x .kept .acks) (f .ack-memory);
             few = rw acklist (x .fit .few);
           }
@@ -368,10 +517,10 @@ module _ (m : Memory) (f : Fine m) where
       fine-finished : (e : End) → Fine (arrived (finished k n e))
       unfolding finished
       fine-finished (through c) =
-          fine-met _ refl refl refl refl refl _ (fastack-sound (n .latest) (n .block .sender) (n .snd) (x .fit .sound))
+          fine-met _ refl refl refl refl refl (input-window (k .settings .mss) (n .block .congestion) (k .sender .«snd_una») (n .block .sender .«snd_una»)) _ (fastack-sound (n .latest) (n .block .sender) (n .snd) (x .fit .sound))
           (fastack-flies (n .block .sender) (n .snd) (x .fit .sound) (x .fit .flies) (n .latest))
           (fastack-slots (n .latest) (n .block .sender) (n .snd) (x .fit .sound))
-      fine-finished (stopped why) = fine-met _ refl refl refl refl refl _ (x .fit .sound) (x .fit .flies) (record { marks = refl; rows = refl; room = refl })
+      fine-finished (stopped why) = fine-met _ refl refl refl refl refl refl _ (x .fit .sound) (x .fit .flies) (record { marks = refl; rows = refl; room = refl })
 
     finished-seen : (n : Met) (e : End) → seenIn (arrived (finished k n e)) ≡ seenMet n
     unfolding finished
@@ -411,9 +560,6 @@ module _ (m : Memory) (f : Fine m) where
       sees = λ r d. d;
     }
 
-    as-it-was : arrived (record { block = k; answer = inputOf k (m .rcv) (m .acks) (m .waiting) (m .snd) s .answer; skipped = 0; rcv = m .rcv; acks = m .acks; snd = storeOf 8 (m .snd) }) ≡ m
-    as-it-was = ap (λ (l : Lists). record { block = k; rcv = m .rcv; acks = m .acks; waiting = m .waiting; snd = l }) (lists-back (m .snd))
-
     reads : Follows (callInput s bytes) m
     unfolding inputOf
     reads = go (leb 24 (length s)) (leb (length s) 1500) refl refl
@@ -431,7 +577,7 @@ module _ (m : Memory) (f : Fine m) where
   unfolding setMtu
   mtu-beside mtu =
       pick-of (λ (s : Set). Beside k (s .block)) (mtuSize mtu)
-      (λ h. record { settings = λ s. record { mtu = exactly-within 50 mtu 1500 .holds h; mss = refl }; probe = λ p. p; acklist = refl; sender = refl })
+      (λ h. record { settings = λ s. record { mtu = exactly-within 50 mtu 1500 .holds h; mss = refl }; probe = λ p. p; acklist = refl; sender = refl; window = λ w. w })
       (unmoved refl)
 
   mtu-receiver : (mtu : ℕ) → setMtu k mtu .block .receiver ≡ k .receiver
@@ -446,7 +592,11 @@ module _ (m : Memory) (f : Fine m) where
   follows callMoveBuf = follow moves
   follows callPeeksize = follow (still callPeeksize k (unmoved refl) refl refl refl)
   follows (callRecv buf) = follow (receives buf)
-  follows (callSetWndsize sndwnd rcvwnd) = follow (windows sndwnd rcvwnd)
+  follows (callFlushAck out lengths) = follow (acks-sent out lengths)
+  follows (callFlush out lengths) = follow (flushes out lengths)
+  follows (callUpdate current out lengths) = follow (updates out lengths current)
+  follows (callCheck current) = follow (still (callCheck current) k (unmoved refl) refl refl refl)
+  follows (callSetWndsize sndwnd fits rcvwnd) = follow (windows sndwnd fits rcvwnd)
   follows (callSetMtu mtu) = follow (still (callSetMtu mtu) (setMtu k mtu .block) (mtu-beside mtu) (mtu-receiver mtu) refl refl)
   follows (callSetInterval interval) = follow (still (callSetInterval interval) _ (unmoved refl) refl refl refl)
   follows (callSetNodelay nodelay interval resend nc) = follow (still (callSetNodelay nodelay interval resend nc) _ (unmoved refl) refl refl refl)

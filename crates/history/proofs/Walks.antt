@@ -58,6 +58,7 @@ pub record Kept (m n : Met) : Type 0 where
   pub probe : n .block .probe .«probe_wait» ≡ m .block .probe .«probe_wait»
   pub mtu : n .block .settings .mtu ≡ m .block .settings .mtu
   pub mss : n .block .settings .mss ≡ m .block .settings .mss
+  pub window : n .block .congestion .«snd_wnd» ≡ m .block .congestion .«snd_wnd»
 
 pub record Stays (m n : Met) : Type 0 where
   pub fit : Fit n
@@ -67,7 +68,7 @@ large-none : (m : Store) → AsLarge m m
 large-none m = record { marks = refl; rows = refl; room = refl }
 
 kept-none : (m : Met) → Kept m m
-kept-none m = record { records = refl; room = refl; snd = large-none (m .snd); acks = refl; waiting = refl; probe = refl; mtu = refl; mss = refl }
+kept-none m = record { records = refl; room = refl; snd = large-none (m .snd); acks = refl; waiting = refl; probe = refl; mtu = refl; mss = refl; window = refl }
 
 kept-both : {a b c : Met} → Kept a b → Kept b c → Kept a c
 kept-both x y = record {
@@ -79,6 +80,7 @@ kept-both x y = record {
   probe = y .probe ∙ x .probe;
   mtu = y .mtu ∙ x .mtu;
   mss = y .mss ∙ x .mss;
+  window = y .window ∙ x .window;
 }
 
 stays-none : (m : Met) → Fit m → Stays m m
@@ -96,7 +98,7 @@ module _ (m : Met) (f : Fit m) where
       pick-of (λ (k : Kcp). Stays m (withBlock m k)) (adopts (m .block .settings .conv) (m .block .settings .«input_conv») met)
       (λ h. record {
         fit = record { good = f .good; low = f .low; sound = f .sound; flies = f .flies; few = f .few };
-        kept = record { records = refl; room = refl; snd = large-none (m .snd); acks = refl; waiting = refl; probe = refl; mtu = refl; mss = refl };
+        kept = record { records = refl; room = refl; snd = large-none (m .snd); acks = refl; waiting = refl; probe = refl; mtu = refl; mss = refl; window = refl };
       })
       (stays-none m f)
 
@@ -110,7 +112,7 @@ module _ (m : Met) (f : Fit m) where
       flies = una-flies (m .block .sender) (m .snd) (f .sound) (f .flies) (h .una);
       few = f .few;
     };
-    kept = record { records = refl; room = refl; snd = large-none (m .snd); acks = refl; waiting = refl; probe = refl; mtu = refl; mss = refl };
+    kept = record { records = refl; room = refl; snd = large-none (m .snd); acks = refl; waiting = refl; probe = refl; mtu = refl; mss = refl; window = refl };
   }
 
   stays-acked : (h : Header) → Stays m (ackedAt h m)
@@ -123,7 +125,7 @@ module _ (m : Met) (f : Fit m) where
       flies = ack-flies (m .block .sender) (m .snd) (f .sound) (f .flies) (h .sn);
       few = f .few;
     };
-    kept = record { records = refl; room = refl; snd = ack-slots (h .sn) (m .block .sender) (m .snd); acks = refl; waiting = refl; probe = refl; mtu = refl; mss = refl };
+    kept = record { records = refl; room = refl; snd = ack-slots (h .sn) (m .block .sender) (m .snd); acks = refl; waiting = refl; probe = refl; mtu = refl; mss = refl; window = refl };
   }
 
   -- an ack joins a list that is not full
@@ -181,6 +183,7 @@ module _ (m : Met) (f : Fit m) where
           probe = refl;
           mtu = refl;
           mss = refl;
+          window = refl;
         };
       }
 
@@ -194,7 +197,7 @@ module _ (m : Met) (f : Fit m) where
   stays-effect h payload frg fit Ack = stays-acked h
   stays-effect h payload frg fit Ask = record {
     fit = record { good = f .good; low = f .low; sound = f .sound; flies = f .flies; few = f .few };
-    kept = record { records = refl; room = refl; snd = large-none (m .snd); acks = refl; waiting = refl; probe = refl; mtu = refl; mss = refl };
+    kept = record { records = refl; room = refl; snd = large-none (m .snd); acks = refl; waiting = refl; probe = refl; mtu = refl; mss = refl; window = refl };
   }
   stays-effect h payload frg fit Tell = stays-none m f
 

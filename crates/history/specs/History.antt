@@ -1,6 +1,6 @@
 -- Demand 3 over the calls themselves: every call that there is, with any arguments, refused ones among them, from a fresh block whose lent
--- memory only these calls touch. What each leaves is what its contract says (kcp/specs, block/specs/Setters). Assumes nothing.
-use Prim.Native.Nat.{ℕ, _+_}
+-- memory only these calls touch. What each leaves is what its contract says (kcp/specs, kcp_flush/specs, block/specs/Setters). Assumes nothing.
+use Prim.Native.Nat.{ℕ, _+_, _≤_, _<_}
 use mathlib.Core.Path.{_≡_}
 use mathlib.Core.Bool.{Bool, cond, _&&_}
 use mathlib.Core.List.{List, [], _∷_, _++_}
@@ -24,16 +24,24 @@ use Rattle.input.specs.Datagram.{metOf}
 use Rattle.kcp.specs.Calls.{moveBufOf, recvOf, setWndsizeOf}
 use Rattle.kcp_send.specs.Send.{sendOf}
 use Rattle.kcp_input.specs.Input.{inputFits, inputOf}
+use Rattle.packing.specs.FlushAck.{Writing, writing}
+use Rattle.output.specs.Memory.{FlushOut}
+use Rattle.kcp_flush.specs.Calls.{flushAckOf, flushOf, updateOf}
 use Rattle.history.specs.Pushes.{pushesOf}
 
--- the bytes of a datagram are below 256, as any are; a getter, wait_snd among them, and peeksize leave all
+-- the bytes of a datagram are below 256, and a send window has 16 bits, as any have; a getter, wait_snd among them, peeksize and check leave all.
+-- flush_ack, flush and update are handed the bytes and the lengths that they write, with whatever stands there
 pub data Call : Type 0 where
   callInput : (datagram : List ℕ) → Octets datagram → Call
   callSend : List ℕ → Call
   callMoveBuf : Call
   callPeeksize : Call
   callRecv : List ℕ → Call
-  callSetWndsize : ℕ → ℕ → Call
+  callFlushAck : (out lengths : List ℕ) → Call
+  callFlush : (out lengths : List ℕ) → Call
+  callUpdate : (current : ℕ) (out lengths : List ℕ) → Call
+  callCheck : (current : ℕ) → Call
+  callSetWndsize : (sndwnd : ℕ) → sndwnd < 65536 → ℕ → Call
   callSetMtu : ℕ → Call
   callSetInterval : ℕ → Call
   callSetNodelay : Bool → ℤ → ℤ → Bool → Call
@@ -59,6 +67,14 @@ pub record Memory : Type 0 where
 abbrev pub withBlock : Memory → Kcp → Memory
 withBlock m k = record { block = k; rcv = m .rcv; acks = m .acks; waiting = m .waiting; snd = m .snd }
 
+-- what waits, and the bytes and lengths that are lent to be written
+abbrev pub toWrite : Memory → List ℕ → List ℕ → Writing
+toWrite m out lengths = writing (m .waiting) out lengths
+
+-- what a flush leaves
+abbrev pub flushedTo : Memory → FlushOut → Memory
+flushedTo m o = record { block = o .out .block; rcv = m .rcv; acks = m .acks; waiting = o .out .written .waiting; snd = listsOf (o .store) }
+
 -- what a call leaves
 unfoldable pub leaves : Call → Memory → Memory
 leaves (callInput s bytes) m =
@@ -72,7 +88,13 @@ leaves callPeeksize m = m
 leaves (callRecv buf) m =
     let o = recvOf (m .block) (m .rcv) buf in
     record { block = o .block; rcv = m .rcv; acks = m .acks; waiting = m .waiting; snd = m .snd }
-leaves (callSetWndsize sndwnd rcvwnd) m = withBlock m (setWndsizeOf (m .block) (m .rcv) sndwnd rcvwnd .block)
+leaves (callFlushAck out lengths) m =
+    let o = flushAckOf (m .block) (m .acks) (toWrite m out lengths) in
+    record { block = o .block; rcv = m .rcv; acks = m .acks; waiting = o .written .waiting; snd = m .snd }
+leaves (callFlush out lengths) m = flushedTo m (flushOf (m .block) (m .snd) (m .acks) (toWrite m out lengths))
+leaves (callUpdate current out lengths) m = flushedTo m (updateOf (m .block) (m .snd) (m .acks) (toWrite m out lengths) current)
+leaves (callCheck current) m = m
+leaves (callSetWndsize sndwnd fits rcvwnd) m = withBlock m (setWndsizeOf (m .block) (m .rcv) sndwnd rcvwnd .block)
 leaves (callSetMtu mtu) m = withBlock m (setMtu (m .block) mtu .block)
 leaves (callSetInterval interval) m = withBlock m (setInterval (m .block) interval)
 leaves (callSetNodelay nodelay interval resend nc) m = withBlock m (setNodelay (m .block) nodelay interval resend nc)
@@ -103,7 +125,11 @@ events (callSend bytes) m = []
 events callMoveBuf m = unlessBad m eventMove
 events callPeeksize m = []
 events (callRecv buf) m = unlessBad m (eventRecv (length buf))
-events (callSetWndsize sndwnd rcvwnd) m = unlessBad m (eventWindow rcvwnd)
+events (callFlushAck out lengths) m = []
+events (callFlush out lengths) m = []
+events (callUpdate current out lengths) m = []
+events (callCheck current) m = []
+events (callSetWndsize sndwnd fits rcvwnd) m = unlessBad m (eventWindow rcvwnd)
 events (callSetMtu mtu) m = []
 events (callSetInterval interval) m = []
 events (callSetNodelay nodelay interval resend nc) m = []
@@ -151,3 +177,5 @@ pub record SoundCalls (h : History) : Type 0 where
   -- the slots in use are those that the memory shows
   pub slots : rules.inUse (seenIn (h .now)) ≡ slotsUsed (h .now)
   pub rising : Rising (h .now)
+  -- and snd_nxt lies no farther past snd_una than the largest send window
+  pub near : distance (h .now .block .sender .«snd_una») (h .now .block .sender .«snd_nxt») ≤ 65535
