@@ -5,5 +5,7 @@ pub mod Rising
 pub mod Stores
 pub mod Walks
 pub mod Flushes
+pub mod Refused
 pub mod Memory
+pub mod Reading
 pub mod History

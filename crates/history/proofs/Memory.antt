@@ -43,7 +43,7 @@ use Rattle.transmit.specs.Fits.{sendFits, SendFits}
 use Rattle.send.specs.Memory.{sendAt}
 use Rattle.transmit.proofs.Seen.{AsLarge, fastack-sound, fastack-slots}
 use Rattle.transmit.proofs.Exact.{exactly as send-exactly, lent-exactly as send-lent-exactly, fits-of as send-fits-of, sound-of, sender-fits-of}
-use Rattle.send.proofs.Keep.{send-sound, send-keeps, send-asks}
+use Rattle.send.proofs.Keep.{send-sound, send-slots, send-keeps, send-asks}
 use Rattle.flushing.specs.Clocks.{ticked}
 use Rattle.flushing.specs.Rules.{flushed}
 use Rattle.flushing.proofs.Calls.{probe-fits}
@@ -60,11 +60,12 @@ use Rattle.kcp_send.specs.Send.{SendOut, sendOf}
 use Rattle.kcp_input.specs.Input.{inputFits, inputOf}
 use Rattle.kcp_flush.specs.Calls.{ackFits, flushFits, flushAckOf, unflushed, flushOf, updateOf}
 use Rattle.kcp_flush.proofs.Calls.{ack-exactly, flush-exactly}
-use Rattle.history.specs.History.{Call, callInput, callSend, callMoveBuf, callPeeksize, callRecv, callFlushAck, callFlush, callUpdate, callCheck, callSetWndsize, callSetMtu, callSetInterval, callSetNodelay, callSetRxMinrto, callSetFastResend, callSetMaximumResendTimes, callInputConv, callSetConv, callGet, listsOf, Memory, withBlock, toWrite, flushedTo, leaves, seenIn, unlessBad, events}
+use Rattle.history.specs.Calls.{Call, callInput, callSend, callMoveBuf, callPeeksize, callRecv, callFlushAck, callFlush, callUpdate, callCheck, callSetWndsize, callSet, callGet, Setting, ofMtu, ofInterval, ofNodelay, ofRxMinrto, ofFastResend, ofMaximumResendTimes, ofInputConv, ofConv, setBy, listsOf, Memory, withBlock, toWrite, flushedTo, leaves, seenIn, passes, unlessBad, events}
+use Rattle.history.specs.History.{sizesOf}
 use Rattle.history.specs.Pushes.{pushesOf}
 use Rattle.history.proofs.Segments.{pick-of}
 use Rattle.history.proofs.Rising.{Flies, fastack-flies, send-flies, flush-flies}
-use Rattle.history.proofs.Stores.{lists-back, store-back, sizes-back}
+use Rattle.history.proofs.Stores.{lists-back, store-back, as-it-was, records-back, room-back, sizes-back}
 use Rattle.history.proofs.Walks.{seenMet, Fit, Stays, walks, pushes-small, walk-runs}
 use Rattle.history.proofs.Flushes.{flush-window, input-window, out-sound, out-large}
 
@@ -83,10 +84,14 @@ pub record Fine (m : Memory) : Type 0 where
   pub ack-memory : AckSizes (length (m .acks)) (length (m .waiting))
   pub few : m .block .acklist .acks ≤ pairs (length (m .acks))
 
+-- n is fine, and the memory as large as that of m
+pub record Whole (m n : Memory) : Type 0 where
+  pub fine : Fine n
+  pub sizes : sizesOf n ≡ sizesOf m
+
 -- the call c at m leaves what its events leave
 pub record Follows (c : Call) (m : Memory) : Type 0 where
-  pub fine : Fine (leaves c m)
-  pub slots : length (leaves c m .rcv .records) ≡ length (m .rcv .records)
+  pub whole : Whole m (leaves c m)
   pub small : AllSmall (events c m)
   pub sees : (r : rules.Past) → r .now ≡ seenIn m → runFrom (length (m .rcv .records)) r (events c m) .now ≡ seenIn (leaves c m)
 
@@ -94,13 +99,12 @@ pub record Follows (c : Call) (m : Memory) : Type 0 where
 record To (c : Call) (m n : Memory) (es : List Event) : Type 0 where
   is : leaves c m ≡ n
   has : events c m ≡ es
-  fine : Fine n
-  slots : length (n .rcv .records) ≡ length (m .rcv .records)
+  whole : Whole m n
   small : AllSmall es
   sees : (r : rules.Past) → r .now ≡ seenIn m → runFrom (length (m .rcv .records)) r es .now ≡ seenIn n
 
 follow : {c : Call} {m n : Memory} {es : List Event} → To c m n es → Follows c m
-follow x = record { fine = rw (x .is) (x .fine); slots = rw (x .is) (x .slots); small = rw (x .has) (x .small); sees = rw (x .is, x .has) (x .sees) }
+follow x = record { whole = rw (x .is) (x .whole); small = rw (x .has) (x .small); sees = rw (x .is, x .has) (x .sees) }
 
 and-no : (b : Bool) → (b && false) ≡ false
 and-no true = refl
@@ -135,6 +139,21 @@ module _ (m : Memory) (f : Fine m) where
 
   pub flush-fits : flushFits (m .block) (m .snd) (m .acks) (m .waiting) ≡ true
   flush-fits = flush-exactly (m .block) (m .acks) (m .waiting) (m .snd) .tests (f .own, (fits-send .lent, fits-acks))
+
+  pub passes-own : (c : Call) → passes c m ≡ true
+  unfolding passes
+  passes-own (callInput s bytes) = input-fits
+  passes-own (callSend bytes) = send-fits
+  passes-own callMoveBuf = receive-fits
+  passes-own callPeeksize = receive-fits
+  passes-own (callRecv buf) = receive-fits
+  passes-own (callFlushAck out lengths) = ack-fits
+  passes-own (callFlush out lengths) = flush-fits
+  passes-own (callUpdate current out lengths) = flush-fits
+  passes-own (callCheck current) = send-fits
+  passes-own (callSetWndsize sndwnd fits rcvwnd) = receive-fits
+  passes-own (callSet x) = refl
+  passes-own callGet = refl
 
 -- ---- the calls
 
@@ -172,42 +191,41 @@ module _ (m : Memory) (f : Fine m) where
         window = λ w. rw (ap (λ x. x .5) e) w;
       }
 
-  fine-beside : {n : Kcp} → Beside k n → Good (n .receiver) (m .rcv) → n .receiver .«rcv_nxt» < 2 ^ 32 → Fine (withBlock m n)
-  fine-beside {n} b g l = record {
-    good = g;
-    low = l;
-    sizes = f .sizes;
-    own = record {
-      settings = b .settings (f .own .settings);
-      probe = b .probe (f .own .probe);
-      receiver = g .fits;
-      sender = subst SenderFits (sym (b .sender)) (f .own .sender);
-      acklist = subst AckListFits (sym (b .acklist)) (f .own .acklist);
+  whole-beside : {n : Kcp} → Beside k n → Good (n .receiver) (m .rcv) → n .receiver .«rcv_nxt» < 2 ^ 32 → Whole m (withBlock m n)
+  whole-beside {n} b g l = record {
+    sizes = refl;
+    fine = record {
+      good = g;
+      low = l;
+      sizes = f .sizes;
+      own = record {
+        settings = b .settings (f .own .settings);
+        probe = b .probe (f .own .probe);
+        receiver = g .fits;
+        sender = subst SenderFits (sym (b .sender)) (f .own .sender);
+        acklist = subst AckListFits (sym (b .acklist)) (f .own .acklist);
+      };
+      sound = subst (λ (s : Sender). Sound 8 (s .ring) (storeOf 8 (m .snd))) (sym (b .sender)) (f .sound);
+      send-sizes = f .send-sizes;
+      flies = subst (λ (s : Sender). Flies s (storeOf 8 (m .snd))) (sym (b .sender)) (f .flies);
+      window = b .window (f .window);
+      ack-memory = f .ack-memory;
+      few = subst (λ (a : AckList). a .acks ≤ pairs (length (m .acks))) (sym (b .acklist)) (f .few);
     };
-    sound = subst (λ (s : Sender). Sound 8 (s .ring) (storeOf 8 (m .snd))) (sym (b .sender)) (f .sound);
-    send-sizes = f .send-sizes;
-    flies = subst (λ (s : Sender). Flies s (storeOf 8 (m .snd))) (sym (b .sender)) (f .flies);
-    window = b .window (f .window);
-    ack-memory = f .ack-memory;
-    few = subst (λ (a : AckList). a .acks ≤ pairs (length (m .acks))) (sym (b .acklist)) (f .few);
   }
 
   -- what a call leaves that does nothing to the receive side
   record Aside (n : Memory) : Type 0 where
-    fine : Fine n
+    whole : Whole m n
     rcv : n .rcv ≡ m .rcv
     receiver : n .block .receiver ≡ k .receiver
 
   beside : {c : Call} {n : Memory} → leaves c m ≡ n → events c m ≡ [] → Aside n → To c m n []
   unfolding runFrom
-  beside is none a = record { is = is; has = none; fine = a .fine; slots = rw (a .rcv); small = tt; sees = λ r e. rw (a .rcv, a .receiver) e }
+  beside is none a = record { is = is; has = none; whole = a .whole; small = tt; sees = λ r e. rw (a .rcv, a .receiver) e }
 
   still : (c : Call) (n : Kcp) → Beside k n → n .receiver ≡ k .receiver → leaves c m ≡ withBlock m n → events c m ≡ [] → To c m (withBlock m n) []
-  still c n b same is none = beside is none (record { fine = fine-beside b (rw same (f .good)) (rw same (f .low)); rcv = refl; receiver = same })
-
-  -- the lists of the send side as they were
-  as-it-was : record { block = k; rcv = m .rcv; acks = m .acks; waiting = m .waiting; snd = listsOf (storeOf 8 (m .snd)) } ≡ m
-  as-it-was = ap (λ (l : Lists). record { block = k; rcv = m .rcv; acks = m .acks; waiting = m .waiting; snd = l }) (lists-back (m .snd))
+  still c n b same is none = beside is none (record { whole = whole-beside b (rw same (f .good)) (rw same (f .low)); rcv = refl; receiver = same })
 
   -- one event
   once : (x : Event) (r : rules.Past) (n : Memory) → r .now ≡ seenIn m → ruleLeaves slots x (seenIn m) ≡ seenIn n → runFrom slots r (x ∷ []) .now ≡ seenIn n
@@ -222,8 +240,7 @@ module _ (m : Memory) (f : Fine m) where
   moves = record {
     is = ap (λ (s : Set). withBlock m (s .block)) (pick-true _ _ (receive-fits m f));
     has = one eventMove;
-    fine = fine-beside (unmoved refl) (move-good (f .good)) (move-next (k .receiver) (m .rcv .records));
-    slots = refl;
+    whole = whole-beside (unmoved refl) (move-good (f .good)) (move-next (k .receiver) (m .rcv .records));
     small = (tt, tt);
     sees = λ r e. once eventMove r (withBlock m (withReceiver k (moveBufAt (k .receiver) (m .rcv .records)))) e (sym (seen-moveBuf (f .good) (f .low)));
   }
@@ -257,8 +274,7 @@ module _ (m : Memory) (f : Fine m) where
     windows = record {
       is = ap (λ (s : Set). withBlock m (s .block)) (pick-true _ _ (receive-fits m f));
       has = one (eventWindow rcvwnd);
-      fine = fine-beside window-beside (window-good k sndwnd rcvwnd most (f .good)) window-next;
-      slots = refl;
+      whole = whole-beside window-beside (window-good k sndwnd rcvwnd most (f .good)) window-next;
       small = (tt, tt);
       sees = λ r e. once (eventWindow rcvwnd) r (withBlock m windowed) e (sym (seen-window slots k sndwnd rcvwnd (m .rcv)));
     }
@@ -296,11 +312,10 @@ module _ (m : Memory) (f : Fine m) where
     receives = record {
       is = ap (λ (o : RecvOut). withBlock m (o .block)) (pick-true _ _ (receive-fits m f));
       has = one (eventRecv (length buf));
-      fine =
-          fine-beside (out-beside (answerAt (length buf) (k .receiver) (m .rcv .records)))
+      whole =
+          whole-beside (out-beside (answerAt (length buf) (k .receiver) (m .rcv .records)))
           (subst (λ (r : Receiver). Good r (m .rcv)) (sym out-is) (recv-good (f .good) buf most))
           (subst (λ (r : Receiver). r .«rcv_nxt» < 2 ^ 32) (sym out-is) (recv-next (k .receiver) (m .rcv) buf (f .low)));
-      slots = refl;
       small = (tt, tt);
       sees = λ r e. once (eventRecv (length buf)) r (withBlock m out) e (sym (ap (λ (r : Receiver). seen r (m .rcv)) out-is ∙ seen-recv (f .good) buf (f .low)));
     }
@@ -337,20 +352,25 @@ module _ (m : Memory) (f : Fine m) where
         let narrow = send-asks k (m .snd) (fits-send m f) .1 .1 in
         let sound = send-sound (k .settings .mss) (k .settings .stream) bytes (k .sender) (storeOf 8 (m .snd)) (f .sound) narrow in
         let back = store-back (after .store) (sound .shaped .sized) in
+        let long = send-slots (k .settings .mss) (k .settings .stream) bytes (k .sender) (storeOf 8 (m .snd)) (f .sound) narrow in
+        let large : AsLarge (storeOf 8 (m .snd)) (after .store) = record { marks = long .0; rows = long .1 .0; room = long .1 .1 } in
         let kept = send-keeps k (m .snd) (fits-send m f) (k .settings .stream) bytes (listsOf (after .store)) back in
         beside (ap sent (pick-true _ _ (send-fits m f))) refl
         (record {
-          fine = record {
-            good = f .good;
-            low = f .low;
-            sizes = f .sizes;
-            own = kept .own;
-            sound = sound-of kept;
-            send-sizes = kept .lent .sizes;
-            flies = subst (Flies (after .sender)) (sym back) (send-flies (k .sender) (storeOf 8 (m .snd)) (f .sound) (f .flies) (k .settings .mss) (k .settings .stream) bytes narrow);
-            window = f .window;
-            ack-memory = f .ack-memory;
-            few = f .few;
+          whole = record {
+            sizes = rw (records-back (m .snd) (after .store) large, room-back (m .snd) (after .store) large);
+            fine = record {
+              good = f .good;
+              low = f .low;
+              sizes = f .sizes;
+              own = kept .own;
+              sound = sound-of kept;
+              send-sizes = kept .lent .sizes;
+              flies = subst (Flies (after .sender)) (sym back) (send-flies (k .sender) (storeOf 8 (m .snd)) (f .sound) (f .flies) (k .settings .mss) (k .settings .stream) bytes narrow);
+              window = f .window;
+              ack-memory = f .ack-memory;
+              few = f .few;
+            };
           };
           rcv = refl;
           receiver = refl;
@@ -364,7 +384,7 @@ module _ (m : Memory) (f : Fine m) where
 
     -- refused, or written
     unsent-aside : Aside m
-    unsent-aside = record { fine = f; rcv = refl; receiver = refl }
+    unsent-aside = record { whole = record { fine = f; sizes = refl }; rcv = refl; receiver = refl }
 
     abbrev ackedTo : Out → Memory
     ackedTo o = record { block = o .block; rcv = m .rcv; acks = m .acks; waiting = o .written .waiting; snd = m .snd }
@@ -375,22 +395,26 @@ module _ (m : Memory) (f : Fine m) where
         let kept = f .ack-memory .kept in
         let rest = pack (k .settings .mtu) (take (k .acklist .waiting) (m .waiting)) (ackBytes (toldOf k) (acksOf (m .acks) (k .acklist .acks))) .1 in
         let small : length rest ≤ 1500 = rest-small k (m .acks) w (f .own .settings .mtu .high) (f .own .acklist .waiting) kept in
+        let same : length (put (m .waiting) 0 rest) ≡ length (m .waiting) = put-length (m .waiting) 0 rest (omega arith) in
         beside refl refl
         (pick-of Fit _
         (λ _. pick-of Fit _
         (λ _. pick-of Fit _ (λ _. unsent-aside)
         (record {
-          fine = record {
-            good = f .good;
-            low = f .low;
-            sizes = f .sizes;
-            own = record { settings = f .own .settings; probe = f .own .probe; receiver = f .own .receiver; sender = f .own .sender; acklist = record { acks = zero-le; waiting = small } };
-            sound = f .sound;
-            send-sizes = f .send-sizes;
-            flies = f .flies;
-            window = f .window;
-            ack-memory = rw (put-length (m .waiting) 0 rest (omega arith)) (f .ack-memory);
-            few = zero-le;
+          whole = record {
+            sizes = rw same;
+            fine = record {
+              good = f .good;
+              low = f .low;
+              sizes = f .sizes;
+              own = record { settings = f .own .settings; probe = f .own .probe; receiver = f .own .receiver; sender = f .own .sender; acklist = record { acks = zero-le; waiting = small } };
+              sound = f .sound;
+              send-sizes = f .send-sizes;
+              flies = f .flies;
+              window = f .window;
+              ack-memory = rw same (f .ack-memory);
+              few = zero-le;
+            };
           };
           rcv = refl;
           receiver = refl;
@@ -405,7 +429,7 @@ module _ (m : Memory) (f : Fine m) where
     Flown o = Aside (flushedTo m o)
 
     unflown : (why : Refusal) → Flown (unflushed k (m .snd) w why)
-    unflown why = subst Aside (sym as-it-was) unsent-aside
+    unflown why = subst Aside (sym (as-it-was m)) unsent-aside
 
     -- the block as the flush finds it: the clock may have moved on
     module _ (c : Clock) where
@@ -418,7 +442,7 @@ module _ (m : Memory) (f : Fine m) where
       abbrev done : Kcp
       done = afterFlush b (movedAt b st .sender .ring) (flushed (outgoing b st (m .acks) (m .waiting)) .after)
 
-      flown : Fine (record { block = done; rcv = m .rcv; acks = m .acks; waiting = m .waiting; snd = listsOf (flownStore b st) })
+      flown : Whole m (record { block = done; rcv = m .rcv; acks = m .acks; waiting = m .waiting; snd = listsOf (flownStore b st) })
       unfolding flushed outgoing
       flown =
           let sound = out-sound b st (f .sound) in
@@ -427,22 +451,25 @@ module _ (m : Memory) (f : Fine m) where
           let slim = f .send-sizes .few .high in
           let marks = large .marks ∙ marks-length 8 (m .snd) in
           record {
-            good = f .good;
-            low = f .low;
-            sizes = f .sizes;
-            own = record {
-              settings = f .own .settings;
-              probe = record { wait = probe-fits (c .current) (k .probe) (f .own .probe) (k .congestion .«rmt_wnd») .wait };
-              receiver = f .own .receiver;
-              sender = sender-fits-of (done .sender) (flownStore b st) sound (omega arith);
-              acklist = record { acks = zero-le; waiting = zero-le };
+            sizes = rw (records-back (m .snd) (flownStore b st) large, room-back (m .snd) (flownStore b st) large);
+            fine = record {
+              good = f .good;
+              low = f .low;
+              sizes = f .sizes;
+              own = record {
+                settings = f .own .settings;
+                probe = record { wait = probe-fits (c .current) (k .probe) (f .own .probe) (k .congestion .«rmt_wnd») .wait };
+                receiver = f .own .receiver;
+                sender = sender-fits-of (done .sender) (flownStore b st) sound (omega arith);
+                acklist = record { acks = zero-le; waiting = zero-le };
+              };
+              sound = rw back sound;
+              send-sizes = sizes-back (m .snd) (flownStore b st) large (f .send-sizes);
+              flies = rw back (flush-flies b st (m .acks) (m .waiting) (f .sound) (f .flies) (f .window));
+              window = rw (flush-window (k .settings .mss) (k .congestion) _ _ _ _ _) (f .window);
+              ack-memory = f .ack-memory;
+              few = zero-le;
             };
-            sound = rw back sound;
-            send-sizes = sizes-back (m .snd) (flownStore b st) large (f .send-sizes);
-            flies = rw back (flush-flies b st (m .acks) (m .waiting) (f .sound) (f .flies) (f .window));
-            window = rw (flush-window (k .settings .mss) (k .congestion) _ _ _ _ _) (f .window);
-            ack-memory = f .ack-memory;
-            few = zero-le;
           }
 
       flush-aside : Flown (flushAt k b st (m .acks) w)
@@ -450,7 +477,7 @@ module _ (m : Memory) (f : Fine m) where
       flush-aside =
           pick-of Flown _ (λ _. unflown OutTooSmall)
           (subst (λ (l : List ℕ). Aside (record { block = done; rcv = m .rcv; acks = m .acks; waiting = l; snd = listsOf (flownStore b st) })) (sym (put-none (m .waiting) 0))
-          (record { fine = flown; rcv = refl; receiver = refl }))
+          (record { whole = flown; rcv = refl; receiver = refl }))
 
     flushes : To (callFlush out lengths) m (flushedTo m (flushOf k (m .snd) (m .acks) w)) []
     unfolding leaves events flushOf
@@ -465,7 +492,7 @@ module _ (m : Memory) (f : Fine m) where
         (pick-of Flown _
         (λ _. pick-of Flown _ (λ _. flush-aside c)
         (subst Aside (ap (λ (l : Lists). record { block = withClock k c; rcv = m .rcv; acks = m .acks; waiting = m .waiting; snd = l }) (sym (lists-back (m .snd))))
-        (record { fine = fine-beside (unmoved refl) (f .good) (f .low); rcv = refl; receiver = refl })))
+        (record { whole = whole-beside (unmoved refl) (f .good) (f .low); rcv = refl; receiver = refl })))
         (unflown BadPool))
 
   -- ---- input
@@ -485,7 +512,7 @@ module _ (m : Memory) (f : Fine m) where
       fine-met : (b : Kcp) → b .settings ≡ n .block .settings → b .receiver ≡ n .block .receiver → b .acklist ≡ n .block .acklist → b .probe ≡ n .block .probe
           → b .sender ≡ n .block .sender → b .congestion .«snd_wnd» ≡ n .block .congestion .«snd_wnd»
           → (q : Store) → Sound 8 (n .block .sender .ring) q → Flies (n .block .sender) q → AsLarge (n .snd) q
-          → Fine (record { block = b; rcv = n .rcv; acks = n .acks; waiting = m .waiting; snd = listsOf q })
+          → Whole m (record { block = b; rcv = n .rcv; acks = n .acks; waiting = m .waiting; snd = listsOf q })
       fine-met b settings receiver acklist probe sender window q sound flies large =
           let back = store-back q (sound .shaped .sized) in
           let whole : AsLarge (storeOf 8 (m .snd)) q =
@@ -496,25 +523,28 @@ module _ (m : Memory) (f : Fine m) where
           let marks = whole .marks ∙ marks-length 8 (m .snd) in
           let mtu = x .kept .mtu in
           record {
-            good = rw receiver (x .fit .good);
-            low = rw receiver (x .fit .low);
-            sizes = rw (x .kept .records, x .kept .room) (f .sizes);
-            own = record {
-              settings = rw settings (record { mtu = rw mtu (f .own .settings .mtu); mss = x .kept .mss ∙ f .own .settings .mss ∙ rw mtu });
-              probe = rw probe (record { wait = rw (x .kept .probe) (f .own .probe .wait) });
-              receiver = rw receiver (x .fit .good .fits);
-              sender = rw sender (sender-fits-of (n .block .sender) q sound (omega arith));
-              acklist = rw acklist (record { acks = omega arith; waiting = rw (x .kept .waiting) (f .own .acklist .waiting) });
+            sizes = rw (x .kept .records, x .kept .room, records-back (m .snd) q whole, room-back (m .snd) q whole, x .kept .acks);
+            fine = record {
+              good = rw receiver (x .fit .good);
+              low = rw receiver (x .fit .low);
+              sizes = rw (x .kept .records, x .kept .room) (f .sizes);
+              own = record {
+                settings = rw settings (record { mtu = rw mtu (f .own .settings .mtu); mss = x .kept .mss ∙ f .own .settings .mss ∙ rw mtu });
+                probe = rw probe (record { wait = rw (x .kept .probe) (f .own .probe .wait) });
+                receiver = rw receiver (x .fit .good .fits);
+                sender = rw sender (sender-fits-of (n .block .sender) q sound (omega arith));
+                acklist = rw acklist (record { acks = omega arith; waiting = rw (x .kept .waiting) (f .own .acklist .waiting) });
+              };
+              sound = rw (sender, back) sound;
+              send-sizes = sizes-back (m .snd) q whole (f .send-sizes);
+              flies = rw (sender, back) flies;
+              window = rw (window, x .kept .window) (f .window);
+              ack-memory = rw (x .kept .acks) (f .ack-memory);
+              few = rw acklist (x .fit .few);
             };
-            sound = rw (sender, back) sound;
-            send-sizes = sizes-back (m .snd) q whole (f .send-sizes);
-            flies = rw (sender, back) flies;
-            window = rw (window, x .kept .window) (f .window);
-            ack-memory = rw (x .kept .acks) (f .ack-memory);
-            few = rw acklist (x .fit .few);
           }
 
-      fine-finished : (e : End) → Fine (arrived (finished k n e))
+      fine-finished : (e : End) → Whole m (arrived (finished k n e))
       unfolding finished
       fine-finished (through c) =
           fine-met _ refl refl refl refl refl (input-window (k .settings .mss) (n .block .congestion) (k .sender .«snd_una») (n .block .sender .«snd_una»)) _ (fastack-sound (n .latest) (n .block .sender) (n .snd) (x .fit .sound))
@@ -527,11 +557,6 @@ module _ (m : Memory) (f : Fine m) where
     finished-seen n (through c) = refl
     finished-seen n (stopped why) = refl
 
-    finished-slots : (n : Met) (e : End) → length (arrived (finished k n e) .rcv .records) ≡ length (n .rcv .records)
-    unfolding finished
-    finished-slots n (through c) = refl
-    finished-slots n (stopped why) = refl
-
     -- it is read
     read : leb 24 (length s) ≡ true → leb (length s) 1500 ≡ true → To (callInput s bytes) m (arrived (readAt k (m .rcv) (m .acks) (storeOf 8 (m .snd)) s)) (pushesOf s start)
     unfolding leaves events inputOf readAt
@@ -542,8 +567,7 @@ module _ (m : Memory) (f : Fine m) where
         record {
           is = ap arrived (pick-true _ _ (input-fits m f) ∙ pick-false _ _ (le-ltb 1500 (length s) short) ∙ pick-false _ _ (le-ltb (length s) 24 (leb-true 24 (length s) l)));
           has = rw (input-fits m f, l, h);
-          fine = fine-finished (w .met) x (w .end);
-          slots = finished-slots (w .met) (w .end) ∙ x .kept .records;
+          whole = fine-finished (w .met) x (w .end);
           small = pushes-small s short bytes slots start start-fit;
           sees = λ r e. walk-runs s short bytes slots start start-fit r e ∙ sym (finished-seen (w .met) (w .end));
         }
@@ -554,8 +578,7 @@ module _ (m : Memory) (f : Fine m) where
     unread h o e g = record {
       is = ap arrived e ∙ g;
       has = rw (input-fits m f, h);
-      fine = f;
-      slots = refl;
+      whole = record { fine = f; sizes = refl };
       small = tt;
       sees = λ r d. d;
     }
@@ -567,22 +590,36 @@ module _ (m : Memory) (f : Fine m) where
         go : (a b : Bool) → leb 24 (length s) ≡ a → leb (length s) 1500 ≡ b → Follows (callInput s bytes) m
         go true true l h = follow (read l h)
         go a false l h =
-            follow (unread (rw h (and-no (leb 24 (length s)))) _ (pick-true _ _ (input-fits m f) ∙ pick-true _ _ (lt-ltb 1500 (length s) (leb-false (length s) 1500 h))) as-it-was)
+            follow (unread (rw h (and-no (leb 24 (length s)))) _ (pick-true _ _ (input-fits m f) ∙ pick-true _ _ (lt-ltb 1500 (length s) (leb-false (length s) 1500 h))) (as-it-was m))
         go false true l h =
-            follow (unread (rw l) _ (pick-true _ _ (input-fits m f) ∙ pick-false _ _ (le-ltb 1500 (length s) (leb-true (length s) 1500 h)) ∙ pick-true _ _ (lt-ltb (length s) 24 (leb-false 24 (length s) l))) as-it-was)
+            follow (unread (rw l) _ (pick-true _ _ (input-fits m f) ∙ pick-false _ _ (le-ltb 1500 (length s) (leb-true (length s) 1500 h)) ∙ pick-true _ _ (lt-ltb (length s) 24 (leb-false 24 (length s) l))) (as-it-was m))
 
   -- ---- the setters
 
-  mtu-beside : (mtu : ℕ) → Beside k (setMtu k mtu .block)
-  unfolding setMtu
-  mtu-beside mtu =
+  set-beside : (x : Setting) → Beside k (setBy x k)
+  unfolding setBy setMtu
+  set-beside (ofMtu mtu) =
       pick-of (λ (s : Set). Beside k (s .block)) (mtuSize mtu)
       (λ h. record { settings = λ s. record { mtu = exactly-within 50 mtu 1500 .holds h; mss = refl }; probe = λ p. p; acklist = refl; sender = refl; window = λ w. w })
       (unmoved refl)
+  set-beside (ofInterval interval) = unmoved refl
+  set-beside (ofNodelay nodelay interval resend nc) = unmoved refl
+  set-beside (ofRxMinrto rto) = unmoved refl
+  set-beside (ofFastResend fr) = unmoved refl
+  set-beside (ofMaximumResendTimes n) = unmoved refl
+  set-beside ofInputConv = unmoved refl
+  set-beside (ofConv conv) = unmoved refl
 
-  mtu-receiver : (mtu : ℕ) → setMtu k mtu .block .receiver ≡ k .receiver
-  unfolding setMtu
-  mtu-receiver mtu = pick-of (λ (s : Set). s .block .receiver ≡ k .receiver) (mtuSize mtu) (λ h. refl) refl
+  set-receiver : (x : Setting) → setBy x k .receiver ≡ k .receiver
+  unfolding setBy setMtu
+  set-receiver (ofMtu mtu) = pick-of (λ (s : Set). s .block .receiver ≡ k .receiver) (mtuSize mtu) (λ h. refl) refl
+  set-receiver (ofInterval interval) = refl
+  set-receiver (ofNodelay nodelay interval resend nc) = refl
+  set-receiver (ofRxMinrto rto) = refl
+  set-receiver (ofFastResend fr) = refl
+  set-receiver (ofMaximumResendTimes n) = refl
+  set-receiver ofInputConv = refl
+  set-receiver (ofConv conv) = refl
 
   -- every call does what its events do
   pub follows : (c : Call) → Follows c m
@@ -597,12 +634,5 @@ module _ (m : Memory) (f : Fine m) where
   follows (callUpdate current out lengths) = follow (updates out lengths current)
   follows (callCheck current) = follow (still (callCheck current) k (unmoved refl) refl refl refl)
   follows (callSetWndsize sndwnd fits rcvwnd) = follow (windows sndwnd fits rcvwnd)
-  follows (callSetMtu mtu) = follow (still (callSetMtu mtu) (setMtu k mtu .block) (mtu-beside mtu) (mtu-receiver mtu) refl refl)
-  follows (callSetInterval interval) = follow (still (callSetInterval interval) _ (unmoved refl) refl refl refl)
-  follows (callSetNodelay nodelay interval resend nc) = follow (still (callSetNodelay nodelay interval resend nc) _ (unmoved refl) refl refl refl)
-  follows (callSetRxMinrto rto) = follow (still (callSetRxMinrto rto) _ (unmoved refl) refl refl refl)
-  follows (callSetFastResend fr) = follow (still (callSetFastResend fr) _ (unmoved refl) refl refl refl)
-  follows (callSetMaximumResendTimes n) = follow (still (callSetMaximumResendTimes n) _ (unmoved refl) refl refl refl)
-  follows callInputConv = follow (still callInputConv _ (unmoved refl) refl refl refl)
-  follows (callSetConv conv) = follow (still (callSetConv conv) _ (unmoved refl) refl refl refl)
+  follows (callSet x) = follow (still (callSet x) (setBy x k) (set-beside x) (set-receiver x) refl refl)
   follows callGet = follow (still callGet k (unmoved refl) refl refl refl)

@@ -2,10 +2,10 @@
 -- then in the memory. Assumes nothing.
 use Prim.Native.Nat.{ℕ, zero, suc, _+_, _-_, _≤_, _<_, _^_, min}
 use native.Mathlib.Omega.{arith}
-use mathlib.Core.Path.{_≡_, refl, sym, ap, subst}
+use mathlib.Core.Path.{_≡_, refl, sym, ap, _∙_, subst}
 use mathlib.Core.Bool.{Bool, true, false, cond}
 use mathlib.Core.List.{List, [], _∷_, _++_, map, map-append}
-use lib.ListN.{length, take, drop}
+use lib.ListN.{length, take, drop, getD, length-map}
 use lib.Seq.{length-take-le}
 use lib.Dec.{leb}
 use borrow.Author.Tests.{leb-true}
@@ -14,8 +14,9 @@ use Rattle.serial.specs.Wrap.{add32, sub32}
 use Rattle.serial.specs.Window.{distance}
 use Rattle.ring.specs.Places.{along}
 use Rattle.ring.specs.Sequences.{removed}
-use Rattle.snd_ring.specs.Store.{Store, flightOf, Sound}
+use Rattle.snd_ring.specs.Store.{Store, Stored, flightOf, Sound}
 use Rattle.snd_ring.specs.Store as memory
+use Rattle.snd_ring.proofs.Views.{flight-length}
 use Rattle.block.specs.declared.Kcp.{Kcp}
 use Rattle.block.specs.declared.congestion.Congestion.{Congestion}
 use Rattle.block.specs.declared.sender.Sender.{Sender}
@@ -32,7 +33,7 @@ use Rattle.flushing.specs.Due.{dueOf, sentAs, flownBy}
 use Rattle.flushing.specs.Pieces.{recordOf, sentOut, numberedFrom}
 use Rattle.flushing.specs.Rules.{Outgoing, movedOut, window, pace, sent, flushed}
 use Rattle.flushing.proofs.Leaving.{leaving-is, leaving-most}
-use Rattle.transmit.specs.Memory.{seen, flyingNumbers, unaAt, ackAt, fastackAt}
+use Rattle.transmit.specs.Memory.{sn, seen, flyingNumbers, unaAt, ackAt, fastackAt}
 use Rattle.transmit.proofs.Numbers.{flying-numbers}
 use Rattle.transmit.proofs.Seen.{seen-una, seen-ack, seen-fastack}
 use Rattle.send.specs.Memory.{sendAt}
@@ -257,6 +258,15 @@ flush-flies k m acks waiting o f w =
     as-kept _ (flownStore k m)
     (subst Risen (sym (ap (λ (x : Outgoing). x .sending) (flush-seen k m acks waiting o)))
     (flush-risen (outgoing k m acks waiting) (let h = window-within (k .settings .nocwnd) (k .congestion) in omega arith) (as-seen (k .sender) m f)))
+
+-- once all is acked nothing flies
+pub acked-none : (s : Sender) (m : Store) → Sound 8 (s .ring) m → Flies s m → s .«snd_una» ≡ s .«snd_nxt» → s .ring .flying ≡ 0
+unfolding flyingNumbers
+acked-none s m o f e =
+    let z = distance-self (s .«snd_nxt») (f .last) in
+    let l = ordered-length (s .«snd_nxt») (distance (s .«snd_nxt») (s .«snd_nxt»)) 0 (flyingNumbers (s .ring) m) (rw e at (f .order)) in
+    let n = length-map (flightOf 8 (s .ring) m) (λ (x : Stored). getD (x .row) sn 0) ∙ flight-length 8 (s .ring) m o in
+    omega arith
 
 -- nothing flies yet
 pub fresh-flies : (s : Sender) (m : Store) → s .«snd_nxt» < 2 ^ 32 → s .«snd_una» ≡ s .«snd_nxt» → s .ring .reach ≡ 0 → Flies s m
