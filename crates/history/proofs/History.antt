@@ -7,6 +7,8 @@ use mathlib.Core.Bool.{Bool, true, false, _&&_}
 use mathlib.Core.Logic.{⊎-elim}
 use mathlib.Core.List.{List, [], _∷_}
 use lib.ListN.{length, getD}
+use lib.Dec.{leb}
+use borrow.Author.Tests.{leb-true}
 use Rattle.serial.specs.Branch.{pick}
 use Rattle.ring.specs.Lists.{Lists}
 use Rattle.ring.specs.Places.{summed}
@@ -14,7 +16,9 @@ use Rattle.ring.specs.Counting.{count}
 use Rattle.ring.specs.Records.{put}
 use Rattle.snd_ring.specs.Store.{storeOf, Sound}
 use Rattle.snd_ring.proofs.Splits.{marks-length, rows-length, store-room}
+use Rattle.wire.specs.LittleEndian.{Octets}
 use Rattle.block.specs.declared.Kcp.{Kcp}
+use Rattle.block.specs.declared.receiver.Receiver.{Receiver}
 use Rattle.block.specs.declared.make.Made.the-variants.{Block, Refused}
 use Rattle.block.specs.declared.refusal.Refusal.the-variants.{BadPool}
 use Rattle.block.specs.Sizes.{receiveSizes, sendSlots, sendSizes, RingSizes, ackSizes}
@@ -25,14 +29,16 @@ use Rattle.receiving.specs.Rules.{fresh as ruleFresh}
 use Rattle.receiving.specs.History.{eventRecv, runFrom, begun as ruleBegun, hands as ruleHands, inUse as ruleUse, step as ruleStep}
 use Rattle.receiving.proofs.Laws.{and-left, and-right}
 use Rattle.receiving.proofs.Theorem.{Inv, inv-run, inv-begun, inv-sound}
+use Rattle.receive.specs.Memory.{seen}
 use Rattle.receive.proofs.Seen.{seen-queued, seen-held}
 use Rattle.receive.proofs.Windows.{seen-fresh, fresh-good}
-use Rattle.history.specs.Calls.{Call, Memory, lentTo, seenIn, passes, events}
-use Rattle.history.specs.History.{History, slotsOf, Turn, onOwn, onOther, step, run, OwnOrRefused, begun, Reads, slotsUsed, sendSlotsUsed, Drained, sizesOf, SoundCalls}
+use Rattle.kcp_input.specs.Input.{inputFits}
+use Rattle.history.specs.Calls.{Call, Memory, lentTo, seenIn, passes, isRead, events}
+use Rattle.history.specs.History.{History, slotsOf, Turn, onOwn, onOther, step, run, OwnOrRefused, begun, Reads, slotsUsedIn, slotsUsed, sendSlotsUsed, metThere, Inside, Drained, sizesOf, SoundCalls}
 use Rattle.history.proofs.Rising.{fresh-flies, acked-none}
-use Rattle.history.proofs.Memory.{Fine, follows, receive-fits, passes-own, received-bytes}
+use Rattle.history.proofs.Memory.{Fine, follows, receive-fits, passes-own, received-bytes, inside}
 use Rattle.history.proofs.Refused.{bad-leaves, bad-tells}
-use Rattle.history.proofs.Reading.{all-along, number-at, first-at, hands-within}
+use Rattle.history.proofs.Reading.{number-at, first-at, hands-within}
 
 -- ---- what every turn keeps
 
@@ -46,6 +52,11 @@ record Kept (start : Memory) (h : History) : Type 0 where
 pub refused-turn : (h : History) (l : Lent) (c : Call) → passes c (lentTo (h .now .block) l) ≡ false → step h (onOther l c) ≡ h
 unfolding step runFrom
 refused-turn h l c e = rw (bad-leaves c (lentTo (h .now .block) l) e, bad-tells c (lentTo (h .now .block) l) e)
+
+-- the slots that the rules count are those that the memory shows
+shown : (r : Receiver) (l : Lists) → ruleUse (seen r l) ≡ slotsUsedIn (r .ring) (l .records)
+unfolding ruleUse
+shown r l = rw (seen-queued r l, seen-held r l)
 
 module _ (start : Memory) where
   own-kept : (h : History) (c : Call) → Kept start h → Kept start (step h (onOwn c))
@@ -77,9 +88,16 @@ module _ (start : Memory) where
       within = hands-within (length buf) (seenIn (h .now));
     }
 
-    shown : ruleUse (seenIn (h .now)) ≡ slotsUsed (h .now)
-    unfolding ruleUse
-    shown = rw (seen-queued (h .now .block .receiver) (h .now .rcv), seen-held (h .now .block .receiver) (h .now .rcv))
+    inside-all : (s : List ℕ) → Octets s → isRead (h .now) s ≡ true → (j : ℕ) → Inside h s j
+    inside-all s bytes read j =
+        let short = and-right (leb 24 (length s)) (leb (length s) 1500) (and-right (inputFits (h .now .block) (h .now .rcv) (h .now .acks) (h .now .waiting) (h .now .snd)) _ read) in
+        let w = inside (h .now) (kept .fine) s bytes (leb-true (length s) 1500 short) j in
+        let e = w .runs (h .past) (kept .sees) in
+        record {
+          sees = e;
+          sound = inv-sound (slotsOf h) _ (inv-run (slotsOf h) _ (w .small) (h .past) (kept .inv));
+          slots = ap ruleUse e ∙ shown (metThere h s j .block .receiver) (metThere h s j .rcv);
+        }
 
     uses-none : Drained h → (slotsUsed (h .now) ≡ 0) × (sendSlotsUsed (h .now) ≡ 0)
     unfolding ruleUse
@@ -89,17 +107,17 @@ module _ (start : Memory) where
         let n = acked-none (h .now .block .sender) (storeOf 8 (h .now .snd)) (kept .fine .sound) (kept .fine .flies) (d .acked) in
         let z = ⊎-elim (λ e. e) (λ (l : 0 < h .now .block .sender .ring .flying). absurd (omega arith)) (kept .fine .own .sender .front) in
         let u = d .sent in
-        (sym shown ∙ rw (← kept .sees) (omega arith), omega arith)
+        (sym (shown (h .now .block .receiver) (h .now .rcv)) ∙ rw (← kept .sees) (omega arith), omega arith)
 
     kept-sound : SoundCalls start h
     kept-sound = record {
       sees = kept .sees;
       sound = inv-sound (slotsOf h) (h .past) (kept .inv);
-      throughout = λ c. all-along (slotsOf h) (events c (h .now)) (follows (h .now) (kept .fine) c .small) (h .past) (kept .inv);
+      inside = inside-all;
       number = rw (kept .sees) at (number-at (slotsOf h) (h .past) (kept .inv));
       firstTaken = rw (kept .sees) at (first-at (slotsOf h) (h .past) (kept .inv));
       reads = reads-all;
-      slots = shown;
+      slots = shown (h .now .block .receiver) (h .now .rcv);
       drained = uses-none;
       lent = kept .lent;
       acks = kept .fine .few;

@@ -54,7 +54,7 @@ use Rattle.packing.proofs.Laying.{put-none}
 use Rattle.output.specs.Memory.{outgoing, toldOf, Out, movedAt, flownStore, afterFlush, FlushOut, flushAckAt, flushAt, updateAt}
 use Rattle.output.proofs.AckFlush.{rest-small}
 use Rattle.input.specs.Segment.{Met, End, through, stopped}
-use Rattle.input.specs.Datagram.{ReadOut, metOf, finished, walkOf, readAt}
+use Rattle.input.specs.Datagram.{ReadOut, metOf, finished, walkFrom, walkOf, readAt}
 use Rattle.kcp.specs.Calls.{moveBufOf, outBy, recvOf, setWndsizeOf, RecvOut}
 use Rattle.kcp_send.specs.Send.{SendOut, sendOf}
 use Rattle.kcp_input.specs.Input.{inputFits, inputOf}
@@ -62,11 +62,11 @@ use Rattle.kcp_flush.specs.Calls.{ackFits, flushFits, flushAckOf, unflushed, fl
 use Rattle.kcp_flush.proofs.Calls.{ack-exactly, flush-exactly}
 use Rattle.history.specs.Calls.{Call, callInput, callSend, callMoveBuf, callPeeksize, callRecv, callFlushAck, callFlush, callUpdate, callCheck, callSetWndsize, callSet, callGet, Setting, ofMtu, ofInterval, ofNodelay, ofRxMinrto, ofFastResend, ofMaximumResendTimes, ofInputConv, ofConv, setBy, listsOf, Memory, withBlock, toWrite, flushedTo, leaves, seenIn, passes, unlessBad, events}
 use Rattle.history.specs.History.{sizesOf}
-use Rattle.history.specs.Pushes.{pushesOf}
+use Rattle.history.specs.Pushes.{pushesFrom, pushesOf}
 use Rattle.history.proofs.Segments.{pick-of}
 use Rattle.history.proofs.Rising.{Flies, fastack-flies, send-flies, flush-flies}
 use Rattle.history.proofs.Stores.{lists-back, store-back, as-it-was, records-back, room-back, sizes-back}
-use Rattle.history.proofs.Walks.{seenMet, Fit, Stays, walks, pushes-small, walk-runs}
+use Rattle.history.proofs.Walks.{seenMet, Fit, Stays, WalksTo, from, walks}
 use Rattle.history.proofs.Flushes.{flush-window, input-window, out-sound, out-large}
 
 -- all that the tests for 15 ask of the block and its lent memory; and the numbers in flight rise
@@ -557,6 +557,10 @@ module _ (m : Memory) (f : Fine m) where
     finished-seen n (through c) = refl
     finished-seen n (stopped why) = refl
 
+    -- after j segments
+    pub inside : length s ≤ 1500 → (j : ℕ) → WalksTo slots start (walkFrom s j 0 start) (pushesFrom s j 0 start)
+    inside short j = from s short bytes slots j 0 start start-fit
+
     -- it is read
     read : leb 24 (length s) ≡ true → leb (length s) 1500 ≡ true → To (callInput s bytes) m (arrived (readAt k (m .rcv) (m .acks) (storeOf 8 (m .snd)) s)) (pushesOf s start)
     unfolding leaves events inputOf readAt
@@ -567,9 +571,9 @@ module _ (m : Memory) (f : Fine m) where
         record {
           is = ap arrived (pick-true _ _ (input-fits m f) ∙ pick-false _ _ (le-ltb 1500 (length s) short) ∙ pick-false _ _ (le-ltb (length s) 24 (leb-true 24 (length s) l)));
           has = rw (input-fits m f, l, h);
-          whole = fine-finished (w .met) x (w .end);
-          small = pushes-small s short bytes slots start start-fit;
-          sees = λ r e. walk-runs s short bytes slots start start-fit r e ∙ sym (finished-seen (w .met) (w .end));
+          whole = fine-finished (w .met) (x .stays) (w .end);
+          small = x .small;
+          sees = λ r e. x .runs r e ∙ sym (finished-seen (w .met) (w .end));
         }
 
     -- it is refused by 11 or by 1

@@ -1,5 +1,4 @@
--- What the rules of the receive side keep of what is read, beside demand 3 between two events: at every moment of several, of the segments still queued,
--- and of the bytes that a recv hands out. Assumes nothing.
+-- What the rules of the receive side keep beside demand 3: of the segments still queued, and of the bytes that a recv hands out. Assumes nothing.
 use Prim.Native.Nat.{ℕ, zero, suc, _≤_, _<_, _%_, _^_, zero-le}
 use native.Mathlib.Omega.{arith}
 use native.Mathlib.Nat.{zero-add}
@@ -11,16 +10,11 @@ use lib.ListN.{length, take, getD, length-append}
 use lib.Dec.{ltb}
 use borrow.Author.Tests.{ltb-false}
 use Rattle.receiving.specs.Rules.{Segment, Receiving, marks, sizes, payloads, message, joined, sum, Answer, empty, expecting, longer, gives, expects, peeked, peek, unlessLonger, recvAnswer, given}
-use Rattle.receiving.specs.History.{Event, eventRecv, AllSmall, Past, hands, step, first, none-segment}
+use Rattle.receiving.specs.History.{eventRecv, Past, hands, first, none-segment}
 use Rattle.receiving.proofs.Laws.{numbered-at, standing-at, first-append}
-use Rattle.receiving.proofs.Theorem.{Inv, layout, inv-step, inv-sound}
-use Rattle.history.specs.History.{Throughout}
+use Rattle.receiving.proofs.Theorem.{Inv, layout}
 
 module _ (slots : ℕ) where
-  pub all-along : (es : List Event) → AllSmall es → (r : Past) → Inv slots r → Throughout slots r es
-  all-along [] small r i = inv-sound slots r i
-  all-along (e ∷ es) small r i = (inv-sound slots r i, all-along es (small .1) (step slots r e) (inv-step slots r e (small .0) i))
-
   module _ (r : Past) (i : Inv slots r) (k : ℕ) (h : k < length (r .handed ++ r .now .queue)) where
     pub number-at : getD (r .handed ++ r .now .queue) k none-segment .sn ≡ k % 2 ^ 32
     number-at = let e = numbered-at 0 (r .handed ++ r .now .queue) none-segment (i .holds .numbered) k h in omega arith

@@ -89,6 +89,12 @@ stays-none m f = record { fit = f; kept = kept-none m }
 stays-both : {a b c : Met} → Stays a b → Stays b c → Stays a c
 stays-both x y = record { fit = y .fit; kept = kept-both (x .kept) (y .kept) }
 
+-- what the walk w from m leaves, with these events
+pub record WalksTo (slots : ℕ) (m : Met) (w : Walked) (es : List Event) : Type 0 where
+  pub stays : Stays m (w .met)
+  pub small : AllSmall es
+  pub runs : (r : rules.Past) → r .now ≡ seenMet m → runFrom slots r es .now ≡ seenMet (w .met)
+
 -- ---- one segment
 
 module _ (m : Met) (f : Fit m) where
@@ -273,12 +279,6 @@ module _ (s : List ℕ) (short : length s ≤ 1500) (bytes : Octets s) where
 
   -- ---- all of them
 
-  -- what the walk w from m leaves, with these events
-  record WalksTo (slots : ℕ) (m : Met) (w : Walked) (es : List Event) : Type 0 where
-    stays : Stays m (w .met)
-    small : AllSmall es
-    runs : (r : rules.Past) → r .now ≡ seenMet m → runFrom slots r es .now ≡ seenMet (w .met)
-
   stands : (slots at : ℕ) (m : Met) → Fit m → WalksTo slots m (record { met = m; end = through at }) []
   unfolding runFrom
   stands slots at m f = record { stays = stays-none m f; small = tt; runs = λ r e. e }
@@ -318,7 +318,7 @@ module _ (s : List ℕ) (short : length s ≤ 1500) (bytes : Octets s) where
       runs = λ z e. ap (λ (u : rules.Past). u .now) (run-both slots z (pushAtSegment s at m) []) ∙ last slots (runFrom slots z (pushAtSegment s at m)) ∙ segment-runs at m more f slots z e;
     }
 
-    from : (fuel at : ℕ) (m : Met) → Fit m → WalksTo slots m (walkFrom s fuel at m) (pushesFrom s fuel at m)
+    pub from : (fuel at : ℕ) (m : Met) → Fit m → WalksTo slots m (walkFrom s fuel at m) (pushesFrom s fuel at m)
     unfolding walkFrom pushesFrom pick
     from zero at m f = stands slots at m f
     from (suc fuel) at m f = go (leb (at + 24) (length s)) refl (λ next n x. from fuel next n x)
@@ -330,14 +330,6 @@ module _ (s : List ℕ) (short : length s ≤ 1500) (bytes : Octets s) where
         go true e rest = after fuel at m f (leb-true (at + 24) (length s) e) rest (segmentAt s at m .end)
         go false e rest = stands slots at m f
 
-    pub walks : (m : Met) → Fit m → Stays m (walkOf s m .met)
-    unfolding walkOf
-    walks m f = from (length s) 0 m f .stays
-
-    pub pushes-small : (m : Met) → Fit m → AllSmall (pushesOf s m)
-    unfolding pushesOf
-    pushes-small m f = from (length s) 0 m f .small
-
-    pub walk-runs : (m : Met) → Fit m → (r : rules.Past) → r .now ≡ seenMet m → runFrom slots r (pushesOf s m) .now ≡ seenMet (walkOf s m .met)
+    pub walks : (m : Met) → Fit m → WalksTo slots m (walkOf s m) (pushesOf s m)
     unfolding walkOf pushesOf
-    walk-runs m f = from (length s) 0 m f .runs
+    walks m f = from (length s) 0 m f

@@ -7,16 +7,22 @@ use mathlib.Core.Option.{some}
 use mathlib.Core.List.{List, [], _∷_, _++_}
 use lib.ListN.{length, drop, getD}
 use Rattle.serial.specs.Window.{distance}
+use Rattle.wire.specs.LittleEndian.{Octets}
 use Rattle.ring.specs.Counting.{count}
+use Rattle.rcv_ring.specs.declared.RcvRing.{RcvRing}
 use Rattle.snd_ring.specs.Store.{storeOf}
 use Rattle.block.specs.Sizes.{pairs}
 use Rattle.block.specs.Fresh.{Lent}
 use Rattle.receiving.specs.Rules.{Segment, Ordered, payloads, joined}
-use Rattle.receiving.specs.History.{Event, runFrom, first, none-segment, Sound}
+use Rattle.receiving.specs.History.{runFrom, first, none-segment, Sound}
 use Rattle.receiving.specs.History as rules
+use Rattle.receive.specs.Memory.{seen}
 use Rattle.transmit.specs.Memory.{flyingNumbers}
 use Rattle.kcp.specs.Calls.{recvOf}
-use Rattle.history.specs.Calls.{Call, callRecv, Memory, lentTo, withBlock, leaves, seenIn, passes, events}
+use Rattle.input.specs.Segment.{Met}
+use Rattle.input.specs.Datagram.{metOf, walkFrom}
+use Rattle.history.specs.Pushes.{pushesFrom}
+use Rattle.history.specs.Calls.{Call, callRecv, Memory, lentTo, withBlock, leaves, seenIn, passes, isRead, events}
 
 -- ---- the history: the memory, and what happened to the receive side so far, as the rules tell it
 
@@ -55,11 +61,6 @@ begun m = record { now = m; past = rules.begun }
 
 -- ---- what is said of a history
 
--- demand 3 of the receive side at every moment of a call: before each of its events, and after the last
-abbrev pub Throughout : ℕ → rules.Past → List Event → Type 0
-Throughout slots r [] = Sound slots r
-Throughout slots r (e ∷ es) = Sound slots r × Throughout slots (rules.step slots r e) es
-
 -- the segments that ever moved to the queue, in order: those handed out, and those that it has
 abbrev pub arrived : History → List Segment
 arrived h = h .past .handed ++ seenIn (h .now) .queue
@@ -73,14 +74,32 @@ pub record Reads (h : History) (buf : List ℕ) : Type 0 where
   pub bytes : recvOf (h .now .block) (h .now .rcv) buf .buf ≡ joined (payloads new) ++ drop (length (joined (payloads new))) buf
   pub within : length (joined (payloads new)) ≤ length buf
 
--- slots in use: those of the queue, and those in reach whose word is a segment's; and of the send side all that it reaches, gaps too, and what waits
-abbrev pub slotsUsed : Memory → ℕ
-slotsUsed m =
-    let r = m .block .receiver .ring in
-    r .queued + count 65536 (m .rcv .records) (r .start) (r .queued) (r .reach)
+-- slots in use: those of the queue, and those in reach whose word is a segment's
+abbrev pub slotsUsedIn : RcvRing → List ℕ → ℕ
+slotsUsedIn r records = r .queued + count 65536 records (r .start) (r .queued) (r .reach)
 
+abbrev pub slotsUsed : Memory → ℕ
+slotsUsed m = slotsUsedIn (m .block .receiver .ring) (m .rcv .records)
+
+-- of the send side, all that it reaches, gaps too, and what waits
 abbrev pub sendSlotsUsed : Memory → ℕ
 sendSlotsUsed m = m .block .sender .ring .reach + m .block .sender .ring .unsent
+
+-- a datagram that is read, after j of its segments, or after all where it has fewer or one is refused: what is met there, and what happened so far
+module _ (h : History) (s : List ℕ) (j : ℕ) where
+  abbrev pub begins : Met
+  begins = metOf (h .now .block) (h .now .rcv) (h .now .acks) (storeOf 8 (h .now .snd))
+
+  abbrev pub metThere : Met
+  metThere = walkFrom s j 0 begins .met
+
+  abbrev pub pastThere : rules.Past
+  pastThere = runFrom (slotsOf h) (h .past) (pushesFrom s j 0 begins)
+
+  pub record Inside : Type 0 where
+    pub sees : pastThere .now ≡ seen (metThere .block .receiver) (metThere .rcv)
+    pub sound : Sound (slotsOf h) pastThere
+    pub slots : rules.inUse (pastThere .now) ≡ slotsUsedIn (metThere .block .receiver .ring) (metThere .rcv .records)
 
 -- all is read, and all is sent and acked
 pub record Drained (h : History) : Type 0 where
@@ -104,8 +123,8 @@ pub record SoundCalls (start : Memory) (h : History) : Type 0 where
   pub sees : h .past .now ≡ seenIn (h .now)
   -- order of the held segments, what is handed out, slots in use
   pub sound : Sound (slotsOf h) (h .past)
-  -- and that at every moment of a next call: no push inside a datagram is turned away for want of a slot
-  pub throughout : (c : Call) → Throughout (slotsOf h) (h .past) (events c (h .now))
+  -- and that inside a datagram too, between any two segments: no push is turned away for want of a slot
+  pub inside : (s : List ℕ) → Octets s → isRead (h .now) s ≡ true → (j : ℕ) → Inside h s j
   -- the k-th segment that was handed out or is queued is the first push taken for place k, its number, mark and payload: the number is k modulo 2^32
   pub number : (k : ℕ) → k < length (arrived h) → getD (arrived h) k none-segment .sn ≡ k % 2 ^ 32
   pub firstTaken : (k : ℕ) → k < length (arrived h) → first k (h .past .pushes) ≡ some (getD (arrived h) k none-segment)
