@@ -1,9 +1,9 @@
 -- What a flush leaves of the send memory and of the window that bounds it, and what flush_ack leaves waiting. Assumes nothing.
-use Prim.Native.Nat.{ℕ, _≤_}
+use Prim.Native.Nat.{ℕ}
 use native.Mathlib.Omega.{arith}
 use mathlib.Core.Path.{_≡_, refl, _∙_}
 use mathlib.Core.Bool.{Bool}
-use mathlib.Core.List.{List, []}
+use mathlib.Core.List.{[]}
 use lib.ListN.{length}
 use Rattle.serial.specs.Branch.{pick}
 use Rattle.serial.specs.Wrap.{after}

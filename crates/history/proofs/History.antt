@@ -36,7 +36,8 @@ use Rattle.kcp_input.specs.Input.{inputFits}
 use Rattle.history.specs.Calls.{Call, Memory, lentTo, seenIn, passes, isRead, events}
 use Rattle.history.specs.History.{History, slotsOf, Turn, onOwn, onOther, step, run, OwnOrRefused, begun, Reads, slotsUsedIn, slotsUsed, sendSlotsUsed, metThere, Inside, Drained, sizesOf, SoundCalls}
 use Rattle.history.proofs.Rising.{fresh-flies, acked-none}
-use Rattle.history.proofs.Memory.{Fine, follows, receive-fits, passes-own, received-bytes, inside}
+use Rattle.history.proofs.Fine.{Fine, own, receive-fits, passes-own}
+use Rattle.history.proofs.Memory.{follows, received-bytes, inside}
 use Rattle.history.proofs.Refused.{bad-leaves, bad-tells}
 use Rattle.history.proofs.Reading.{number-at, first-at, hands-within}
 
@@ -49,7 +50,7 @@ record Kept (start : Memory) (h : History) : Type 0 where
   lent : sizesOf (h .now) ≡ sizesOf start
 
 -- a call that is refused by 15 leaves everything
-pub refused-turn : (h : History) (l : Lent) (c : Call) → passes c (lentTo (h .now .block) l) ≡ false → step h (onOther l c) ≡ h
+refused-turn : (h : History) (l : Lent) (c : Call) → passes c (lentTo (h .now .block) l) ≡ false → step h (onOther l c) ≡ h
 unfolding step runFrom
 refused-turn h l c e = rw (bad-leaves c (lentTo (h .now .block) l) e, bad-tells c (lentTo (h .now .block) l) e)
 
@@ -104,8 +105,8 @@ module _ (start : Memory) where
     uses-none d =
         let t = kept .inv .holds .total in
         let r = d .read in
-        let n = acked-none (h .now .block .sender) (storeOf 8 (h .now .snd)) (kept .fine .sound) (kept .fine .flies) (d .acked) in
-        let z = ⊎-elim (λ e. e) (λ (l : 0 < h .now .block .sender .ring .flying). absurd (omega arith)) (kept .fine .own .sender .front) in
+        let n = acked-none (h .now .block .sender) (storeOf 8 (h .now .snd)) (kept .fine .sends .sound) (kept .fine .sends .flies) (d .acked) in
+        let z = ⊎-elim (λ e. e) (λ (l : 0 < h .now .block .sender .ring .flying). absurd (omega arith)) (own (kept .fine) .sender .front) in
         let u = d .sent in
         (sym (shown (h .now .block .receiver) (h .now .rcv)) ∙ rw (← kept .sees) (omega arith), omega arith)
 
@@ -120,10 +121,11 @@ module _ (start : Memory) where
       slots = shown (h .now .block .receiver) (h .now .rcv);
       drained = uses-none;
       lent = kept .lent;
-      acks = kept .fine .few;
+      acks = kept .fine .lists .few;
       passed = passes-own (h .now) (kept .fine);
-      rising = kept .fine .flies .order;
-      near = kept .fine .flies .near;
+      refused = λ l c e. (refused-turn h l c e, bad-leaves c (lentTo (h .now .block) l) e);
+      rising = kept .fine .sends .flies .order;
+      near = kept .fine .sends .flies .near;
     }
 
 -- ---- from a fresh block
@@ -172,16 +174,16 @@ module _ (conv : ℕ) (stream : Bool) (interval : ℕ) (l : Lent) (sizes : lentS
         sees = sym (seen-fresh (l .rcv));
         lent = refl;
         fine = record {
-          good = fresh-good z;
-          low = omega arith;
-          sizes = z;
-          own = fresh-fits conv stream interval;
-          sound = fresh-sound (l .snd) y;
-          send-sizes = y;
-          flies = fresh-flies freshSender (storeOf 8 (l .snd)) (omega arith) refl refl;
-          window = omega arith;
-          ack-memory = ack-sizes (length (l .acks)) (length (l .waiting)) .holds (and-right (receive && send) ack sizes);
-          few = zero-le;
+          settings = fresh-fits conv stream interval .settings;
+          probe = fresh-fits conv stream interval .probe;
+          receives = record { good = fresh-good z; low = omega arith; sizes = z };
+          sends = record {
+            sound = fresh-sound (l .snd) y;
+            flies = fresh-flies freshSender (storeOf 8 (l .snd)) (omega arith) refl refl;
+            slots = rw (marks-length 8 (l .snd)) (y .few);
+            narrow = omega arith;
+          };
+          lists = record { memory = ack-sizes (length (l .acks)) (length (l .waiting)) .holds (and-right (receive && send) ack sizes); few = zero-le; held = zero-le };
         };
       }
 

@@ -1,5 +1,4 @@
--- What every call keeps of the block and its lent memory, so that no call is refused by 15; and that a call does to the receive side what its
--- events do. Assumes nothing.
+-- Every call keeps the block and its lent memory fine and as large as they were, and does to the receive side what its events do. Assumes nothing.
 use Prim.Native.Nat.{ℕ, _≤_, _<_, _^_, zero-le}
 use native.Mathlib.Omega.{arith}
 use mathlib.Core.Path.{_≡_, refl, sym, ap, _∙_, subst}
@@ -12,8 +11,7 @@ use Rattle.serial.specs.Branch.{pick-true, pick-false}
 use Rattle.ring.specs.Lists.{Lists}
 use Rattle.ring.specs.Records.{put}
 use Rattle.ring.proofs.Rows.{put-length}
-use Rattle.snd_ring.specs.Store.{Store, storeOf, Sound}
-use Rattle.snd_ring.proofs.Splits.{marks-length}
+use Rattle.snd_ring.specs.Store.{Store, storeOf}
 use Rattle.wire.specs.LittleEndian.{Octets}
 use Rattle.block.specs.declared.Kcp.{Kcp}
 use Rattle.block.specs.declared.set.Set.{Set}
@@ -26,24 +24,21 @@ use Rattle.block.specs.declared.sender.Sender.{Sender}
 use Rattle.block.specs.declared.refusal.Refusal.{Refusal}
 use Rattle.block.specs.declared.refusal.Refusal.the-variants.{NeedUpdate, OutTooSmall, BadPool}
 use Rattle.block.specs.Parts.{withClock, withReceiver, withSender}
-use Rattle.block.specs.Sizes.{RingSizes, sendSlots, AckSizes, pairs, mtuSize}
-use Rattle.block.specs.WellFormed.{SettingsFit, ProbeFits, AckListFits, SenderFits, OwnNumbers}
+use Rattle.block.specs.Sizes.{mtuSize}
+use Rattle.block.specs.WellFormed.{SettingsFit, ProbeFits}
 use Rattle.block.specs.Setters.{setMtu}
-use Rattle.block.proofs.Exact.{exactly-within, own-numbers, acks-exactly}
+use Rattle.block.proofs.Exact.{exactly-within}
 use Rattle.receiving.specs.Rules.{Answer, empty, expecting, longer, gives, payloads, joined, given, tooLarge, tells}
 use Rattle.receiving.specs.History.{Event, eventRecv, eventMove, eventWindow, AllSmall, runFrom, leaves as ruleLeaves, hands as ruleHands, step as ruleStep}
 use Rattle.receiving.specs.History as rules
 use Rattle.receive.specs.Memory.{seen, messageAt, bytesAt, recvBy, recvAt, answerAt, handedAt, moveBufAt, probeAt, widenedAt, sendWindow, receiveWindow, windowsAt}
-use Rattle.receive.specs.Fits.{receiveFits, ReceiveFits, Good}
+use Rattle.receive.specs.Fits.{Good}
 use Rattle.receive.proofs.Seen.{message-queued, seen-answer, seen-message, seen-bytes, seen-recv, recv-good, recv-next, seen-moveBuf, move-good, move-next}
 use Rattle.receive.proofs.Windows.{seen-window, window-good}
-use Rattle.receive.proofs.Exact.{exactly, lent-exactly, fits-of}
 use Rattle.transmit.specs.Memory.{Side}
-use Rattle.transmit.specs.Fits.{sendFits, SendFits}
 use Rattle.send.specs.Memory.{sendAt}
 use Rattle.transmit.proofs.Seen.{AsLarge, fastack-sound, fastack-slots}
-use Rattle.transmit.proofs.Exact.{exactly as send-exactly, lent-exactly as send-lent-exactly, fits-of as send-fits-of, sound-of, sender-fits-of}
-use Rattle.send.proofs.Keep.{send-sound, send-slots, send-keeps, send-asks}
+use Rattle.send.proofs.Keep.{send-sound, send-slots, send-asks}
 use Rattle.flushing.specs.Clocks.{ticked}
 use Rattle.flushing.specs.Rules.{flushed}
 use Rattle.flushing.proofs.Calls.{probe-fits}
@@ -51,38 +46,23 @@ use Rattle.flushing.specs.Pack.{pack}
 use Rattle.packing.specs.Acks.{acksOf, ackBytes}
 use Rattle.packing.specs.FlushAck.{Writing}
 use Rattle.packing.proofs.Laying.{put-none}
-use Rattle.output.specs.Memory.{outgoing, toldOf, Out, movedAt, flownStore, afterFlush, FlushOut, flushAckAt, flushAt, updateAt}
+use Rattle.output.specs.Memory.{outgoing, toldOf, acked, Out, movedAt, flownStore, afterFlush, FlushOut, flushAckAt, flushAt, updateAt}
 use Rattle.output.proofs.AckFlush.{rest-small}
 use Rattle.input.specs.Segment.{Met, End, through, stopped}
 use Rattle.input.specs.Datagram.{ReadOut, metOf, finished, walkFrom, walkOf, readAt}
 use Rattle.kcp.specs.Calls.{moveBufOf, outBy, recvOf, setWndsizeOf, RecvOut}
 use Rattle.kcp_send.specs.Send.{SendOut, sendOf}
-use Rattle.kcp_input.specs.Input.{inputFits, inputOf}
-use Rattle.kcp_flush.specs.Calls.{ackFits, flushFits, flushAckOf, unflushed, flushOf, updateOf}
-use Rattle.kcp_flush.proofs.Calls.{ack-exactly, flush-exactly}
-use Rattle.history.specs.Calls.{Call, callInput, callSend, callMoveBuf, callPeeksize, callRecv, callFlushAck, callFlush, callUpdate, callCheck, callSetWndsize, callSet, callGet, Setting, ofMtu, ofInterval, ofNodelay, ofRxMinrto, ofFastResend, ofMaximumResendTimes, ofInputConv, ofConv, setBy, listsOf, Memory, withBlock, toWrite, flushedTo, leaves, seenIn, passes, unlessBad, events}
+use Rattle.kcp_input.specs.Input.{inputOf}
+use Rattle.kcp_flush.specs.Calls.{flushAckOf, unflushed, flushOf, updateOf}
+use Rattle.history.specs.Calls.{Call, callInput, callSend, callMoveBuf, callPeeksize, callRecv, callFlushAck, callFlush, callUpdate, callCheck, callSetWndsize, callSet, callGet, Setting, ofMtu, ofInterval, ofNodelay, ofRxMinrto, ofFastResend, ofMaximumResendTimes, ofInputConv, ofConv, setBy, listsOf, Memory, withBlock, toWrite, flushedTo, leaves, seenIn, unlessBad, events}
 use Rattle.history.specs.History.{sizesOf}
 use Rattle.history.specs.Pushes.{pushesFrom, pushesOf}
 use Rattle.history.proofs.Segments.{pick-of}
-use Rattle.history.proofs.Rising.{Flies, fastack-flies, send-flies, flush-flies}
-use Rattle.history.proofs.Stores.{lists-back, store-back, as-it-was, records-back, room-back, sizes-back}
-use Rattle.history.proofs.Walks.{seenMet, Fit, Stays, WalksTo, from, walks}
+use Rattle.history.proofs.Rising.{fastack-flies, send-flies, flush-flies}
+use Rattle.history.proofs.Stores.{lists-back, store-back, as-it-was, records-back, room-back}
+use Rattle.history.proofs.Fine.{FineSend, FineAcks, FineIn, Fine, fits-send, receive-fits, send-fits, input-fits}
+use Rattle.history.proofs.Walks.{seenMet, Stays, WalksTo, from, walks}
 use Rattle.history.proofs.Flushes.{flush-window, input-window, out-sound, out-large}
-
--- all that the tests for 15 ask of the block and its lent memory; and the numbers in flight rise
-pub record Fine (m : Memory) : Type 0 where
-  pub good : Good (m .block .receiver) (m .rcv)
-  pub low : m .block .receiver .«rcv_nxt» < 2 ^ 32
-  pub sizes : RingSizes 256 1024 (length (m .rcv .records)) 1 (length (m .rcv .records)) (length (m .rcv .room))
-  pub own : OwnNumbers (m .block)
-  pub sound : Sound 8 (m .block .sender .ring) (storeOf 8 (m .snd))
-  pub send-sizes : RingSizes 128 1024 (sendSlots (length (m .snd .records))) 9 (length (m .snd .records)) (length (m .snd .room))
-  pub flies : Flies (m .block .sender) (storeOf 8 (m .snd))
-  -- a send window has 16 bits, so that the numbers in flight never come round
-  pub window : m .block .congestion .«snd_wnd» < 65536
-  -- the limits of the ack memory, and "at most A acks"
-  pub ack-memory : AckSizes (length (m .acks)) (length (m .waiting))
-  pub few : m .block .acklist .acks ≤ pairs (length (m .acks))
 
 -- n is fine, and the memory as large as that of m
 pub record Whole (m n : Memory) : Type 0 where
@@ -110,51 +90,6 @@ and-no : (b : Bool) → (b && false) ≡ false
 and-no true = refl
 and-no false = refl
 
--- ---- no call is refused by 15
-
-module _ (m : Memory) (f : Fine m) where
-  fits-receive : ReceiveFits (m .block) (m .rcv)
-  fits-receive = fits-of (f .sizes) (f .own) (f .good)
-
-  pub receive-fits : receiveFits (m .block) (m .rcv) ≡ true
-  receive-fits = exactly (m .block) (m .rcv) .tests fits-receive
-
-  fits-send : SendFits (m .block) (m .snd)
-  fits-send = send-fits-of (m .block) (m .snd) (f .own) (f .send-sizes) (f .sound)
-
-  pub send-fits : sendFits (m .block) (m .snd) ≡ true
-  send-fits = send-exactly (m .block) (m .snd) .tests fits-send
-
-  fits-acks : AckSizes (length (m .acks)) (length (m .waiting)) × (m .block .acklist .acks ≤ pairs (length (m .acks)))
-  fits-acks = (f .ack-memory, f .few)
-
-  pub input-fits : inputFits (m .block) (m .rcv) (m .acks) (m .waiting) (m .snd) ≡ true
-  unfolding inputFits
-  input-fits =
-      rw (own-numbers (m .block) .tests (f .own), lent-exactly (m .block .receiver) (m .rcv) .tests (fits-receive .lent), send-lent-exactly (m .block .sender) (m .snd) .tests (fits-send .lent))
-      (acks-exactly (m .block .acklist) (m .acks) (m .waiting) .tests fits-acks)
-
-  pub ack-fits : ackFits (m .block) (m .acks) (m .waiting) ≡ true
-  ack-fits = ack-exactly (m .block) (m .acks) (m .waiting) .tests (f .own, fits-acks)
-
-  pub flush-fits : flushFits (m .block) (m .snd) (m .acks) (m .waiting) ≡ true
-  flush-fits = flush-exactly (m .block) (m .acks) (m .waiting) (m .snd) .tests (f .own, (fits-send .lent, fits-acks))
-
-  pub passes-own : (c : Call) → passes c m ≡ true
-  unfolding passes
-  passes-own (callInput s bytes) = input-fits
-  passes-own (callSend bytes) = send-fits
-  passes-own callMoveBuf = receive-fits
-  passes-own callPeeksize = receive-fits
-  passes-own (callRecv buf) = receive-fits
-  passes-own (callFlushAck out lengths) = ack-fits
-  passes-own (callFlush out lengths) = flush-fits
-  passes-own (callUpdate current out lengths) = flush-fits
-  passes-own (callCheck current) = send-fits
-  passes-own (callSetWndsize sndwnd fits rcvwnd) = receive-fits
-  passes-own (callSet x) = refl
-  passes-own callGet = refl
-
 -- ---- the calls
 
 -- what a call leaves beside the receive side
@@ -172,8 +107,17 @@ module _ (m : Memory) (f : Fine m) where
   abbrev slots : ℕ
   slots = length (m .rcv .records)
 
+  abbrev st : Store
+  st = storeOf 8 (m .snd)
+
   most : slots ≤ 1024
-  most = f .sizes .few .high
+  most = f .receives .sizes .few .high
+
+  abbrev good : Good (k .receiver) (m .rcv)
+  good = f .receives .good
+
+  abbrev low : k .receiver .«rcv_nxt» < 2 ^ 32
+  low = f .receives .low
 
   -- the block's numbers beside the receive side that the test for 15 looks at
   abbrev aside : Kcp → ℕ × ℕ × Probe × AckList × Sender × ℕ
@@ -195,23 +139,23 @@ module _ (m : Memory) (f : Fine m) where
   whole-beside {n} b g l = record {
     sizes = refl;
     fine = record {
-      good = g;
-      low = l;
-      sizes = f .sizes;
-      own = record {
-        settings = b .settings (f .own .settings);
-        probe = b .probe (f .own .probe);
-        receiver = g .fits;
-        sender = subst SenderFits (sym (b .sender)) (f .own .sender);
-        acklist = subst AckListFits (sym (b .acklist)) (f .own .acklist);
-      };
-      sound = subst (λ (s : Sender). Sound 8 (s .ring) (storeOf 8 (m .snd))) (sym (b .sender)) (f .sound);
-      send-sizes = f .send-sizes;
-      flies = subst (λ (s : Sender). Flies s (storeOf 8 (m .snd))) (sym (b .sender)) (f .flies);
-      window = b .window (f .window);
-      ack-memory = f .ack-memory;
-      few = subst (λ (a : AckList). a .acks ≤ pairs (length (m .acks))) (sym (b .acklist)) (f .few);
+      settings = b .settings (f .settings);
+      probe = b .probe (f .probe);
+      receives = record { good = g; low = l; sizes = f .receives .sizes };
+      sends =
+          subst (λ (s : Sender). FineSend s (n .congestion .«snd_wnd») st) (sym (b .sender))
+          (record { sound = f .sends .sound; flies = f .sends .flies; slots = f .sends .slots; narrow = b .window (f .sends .narrow) });
+      lists = subst (λ (a : AckList). FineAcks a (m .acks) (m .waiting)) (sym (b .acklist)) (f .lists);
     };
+  }
+
+  -- a store that is fine, as the lists that it lies in, each memory as large as it was
+  laid : {b : Kcp} {rcv : Lists} {acks waiting : List ℕ} {q : Store} → FineIn b rcv acks waiting q → AsLarge st q
+      → length (rcv .records) ≡ slots → length (rcv .room) ≡ length (m .rcv .room) → length acks ≡ length (m .acks) → length waiting ≡ length (m .waiting)
+      → Whole m (record { block = b; rcv = rcv; acks = acks; waiting = waiting; snd = listsOf q })
+  laid {b} {rcv} {acks} {waiting} {q} g large records room listed held = record {
+    fine = subst (FineIn b rcv acks waiting) (sym (store-back q (g .sends .sound .shaped .sized))) g;
+    sizes = rw (records, room, records-back (m .snd) q large, room-back (m .snd) q large, listed, held);
   }
 
   -- what a call leaves that does nothing to the receive side
@@ -225,7 +169,7 @@ module _ (m : Memory) (f : Fine m) where
   beside is none a = record { is = is; has = none; whole = a .whole; small = tt; sees = λ r e. rw (a .rcv, a .receiver) e }
 
   still : (c : Call) (n : Kcp) → Beside k n → n .receiver ≡ k .receiver → leaves c m ≡ withBlock m n → events c m ≡ [] → To c m (withBlock m n) []
-  still c n b same is none = beside is none (record { whole = whole-beside b (rw same (f .good)) (rw same (f .low)); rcv = refl; receiver = same })
+  still c n b same is none = beside is none (record { whole = whole-beside b (rw same good) (rw same low); rcv = refl; receiver = same })
 
   -- one event
   once : (x : Event) (r : rules.Past) (n : Memory) → r .now ≡ seenIn m → ruleLeaves slots x (seenIn m) ≡ seenIn n → runFrom slots r (x ∷ []) .now ≡ seenIn n
@@ -240,9 +184,9 @@ module _ (m : Memory) (f : Fine m) where
   moves = record {
     is = ap (λ (s : Set). withBlock m (s .block)) (pick-true _ _ (receive-fits m f));
     has = one eventMove;
-    whole = whole-beside (unmoved refl) (move-good (f .good)) (move-next (k .receiver) (m .rcv .records));
+    whole = whole-beside (unmoved refl) (move-good good) (move-next (k .receiver) (m .rcv .records));
     small = (tt, tt);
-    sees = λ r e. once eventMove r (withBlock m (withReceiver k (moveBufAt (k .receiver) (m .rcv .records)))) e (sym (seen-moveBuf (f .good) (f .low)));
+    sees = λ r e. once eventMove r (withBlock m (withReceiver k (moveBufAt (k .receiver) (m .rcv .records)))) e (sym (seen-moveBuf good low));
   }
 
   module _ (sndwnd : ℕ) (small : sndwnd < 65536) (rcvwnd : ℕ) where
@@ -266,15 +210,15 @@ module _ (m : Memory) (f : Fine m) where
     unfolding windowsAt receiveWindow widenedAt
     window-next =
         pick-of (λ (s : Set). s .block .receiver .«rcv_nxt» < 2 ^ 32) (tooLarge slots rcvwnd)
-        (λ h. f .low)
-        (pick-of (λ (r : Receiver). r .«rcv_nxt» < 2 ^ 32) (ltb 0 rcvwnd) (λ h. f .low) (f .low))
+        (λ h. low)
+        (pick-of (λ (r : Receiver). r .«rcv_nxt» < 2 ^ 32) (ltb 0 rcvwnd) (λ h. low) low)
 
     windows : To (callSetWndsize sndwnd small rcvwnd) m (withBlock m windowed) (eventWindow rcvwnd ∷ [])
     unfolding leaves events setWndsizeOf ruleLeaves
     windows = record {
       is = ap (λ (s : Set). withBlock m (s .block)) (pick-true _ _ (receive-fits m f));
       has = one (eventWindow rcvwnd);
-      whole = whole-beside window-beside (window-good k sndwnd rcvwnd most (f .good)) window-next;
+      whole = whole-beside window-beside (window-good k sndwnd rcvwnd most good) window-next;
       small = (tt, tt);
       sees = λ r e. once (eventWindow rcvwnd) r (withBlock m windowed) e (sym (seen-window slots k sndwnd rcvwnd (m .rcv)));
     }
@@ -314,10 +258,10 @@ module _ (m : Memory) (f : Fine m) where
       has = one (eventRecv (length buf));
       whole =
           whole-beside (out-beside (answerAt (length buf) (k .receiver) (m .rcv .records)))
-          (subst (λ (r : Receiver). Good r (m .rcv)) (sym out-is) (recv-good (f .good) buf most))
-          (subst (λ (r : Receiver). r .«rcv_nxt» < 2 ^ 32) (sym out-is) (recv-next (k .receiver) (m .rcv) buf (f .low)));
+          (subst (λ (r : Receiver). Good r (m .rcv)) (sym out-is) (recv-good good buf most))
+          (subst (λ (r : Receiver). r .«rcv_nxt» < 2 ^ 32) (sym out-is) (recv-next (k .receiver) (m .rcv) buf low));
       small = (tt, tt);
-      sees = λ r e. once (eventRecv (length buf)) r (withBlock m out) e (sym (ap (λ (r : Receiver). seen r (m .rcv)) out-is ∙ seen-recv (f .good) buf (f .low)));
+      sees = λ r e. once (eventRecv (length buf)) r (withBlock m out) e (sym (ap (λ (r : Receiver). seen r (m .rcv)) out-is ∙ seen-recv good buf low));
     }
 
     -- the buffer has the payloads of the segments handed out, and behind them what stood there
@@ -326,7 +270,7 @@ module _ (m : Memory) (f : Fine m) where
     received-bytes =
         ap (λ (o : RecvOut). o .buf) (pick-true _ _ (receive-fits m f))
         ∙ go (answerAt (length buf) (k .receiver) (m .rcv .records))
-        ∙ ap (λ (a : Answer). put buf 0 (joined (payloads (take (given a (seenIn m)) (seenIn m .queue))))) (sym (seen-answer (f .good) (length buf)))
+        ∙ ap (λ (a : Answer). put buf 0 (joined (payloads (take (given a (seenIn m)) (seenIn m .queue))))) (sym (seen-answer good (length buf)))
       where
         go : (a : Answer) → outBy a k (m .rcv) buf .buf ≡ put buf 0 (joined (payloads (take (given a (seenIn m)) (seenIn m .queue))))
         go empty = refl
@@ -349,29 +293,26 @@ module _ (m : Memory) (f : Fine m) where
     sends : To (callSend bytes) m (record { block = withSender k (after .sender); rcv = m .rcv; acks = m .acks; waiting = m .waiting; snd = listsOf (after .store) }) []
     unfolding leaves events sendOf
     sends =
-        let narrow = send-asks k (m .snd) (fits-send m f) .1 .1 in
-        let sound = send-sound (k .settings .mss) (k .settings .stream) bytes (k .sender) (storeOf 8 (m .snd)) (f .sound) narrow in
-        let back = store-back (after .store) (sound .shaped .sized) in
-        let long = send-slots (k .settings .mss) (k .settings .stream) bytes (k .sender) (storeOf 8 (m .snd)) (f .sound) narrow in
-        let large : AsLarge (storeOf 8 (m .snd)) (after .store) = record { marks = long .0; rows = long .1 .0; room = long .1 .1 } in
-        let kept = send-keeps k (m .snd) (fits-send m f) (k .settings .stream) bytes (listsOf (after .store)) back in
+        let o = f .sends .sound in
+        let small = send-asks k (m .snd) (fits-send m f) .1 .1 in
+        let long = send-slots (k .settings .mss) (k .settings .stream) bytes (k .sender) st o small in
         beside (ap sent (pick-true _ _ (send-fits m f))) refl
         (record {
-          whole = record {
-            sizes = rw (records-back (m .snd) (after .store) large, room-back (m .snd) (after .store) large);
-            fine = record {
-              good = f .good;
-              low = f .low;
-              sizes = f .sizes;
-              own = kept .own;
-              sound = sound-of kept;
-              send-sizes = kept .lent .sizes;
-              flies = subst (Flies (after .sender)) (sym back) (send-flies (k .sender) (storeOf 8 (m .snd)) (f .sound) (f .flies) (k .settings .mss) (k .settings .stream) bytes narrow);
-              window = f .window;
-              ack-memory = f .ack-memory;
-              few = f .few;
-            };
-          };
+          whole =
+              laid
+              (record {
+                settings = f .settings;
+                probe = f .probe;
+                receives = f .receives;
+                sends = record {
+                  sound = send-sound (k .settings .mss) (k .settings .stream) bytes (k .sender) st o small;
+                  flies = send-flies (k .sender) st o (f .sends .flies) (k .settings .mss) (k .settings .stream) bytes small;
+                  slots = rw (long .0) (f .sends .slots);
+                  narrow = f .sends .narrow;
+                };
+                lists = f .lists;
+              })
+              (record { marks = long .0; rows = long .1 .0; room = long .1 .1 }) refl refl refl refl;
           rcv = refl;
           receiver = refl;
         })
@@ -382,48 +323,43 @@ module _ (m : Memory) (f : Fine m) where
     abbrev w : Writing
     w = toWrite m out lengths
 
-    -- refused, or written
+    -- refused
     unsent-aside : Aside m
     unsent-aside = record { whole = record { fine = f; sizes = refl }; rcv = refl; receiver = refl }
 
     abbrev ackedTo : Out → Memory
     ackedTo o = record { block = o .block; rcv = m .rcv; acks = m .acks; waiting = o .written .waiting; snd = m .snd }
 
-    acks-sent : To (callFlushAck out lengths) m (ackedTo (flushAckOf k (m .acks) w)) []
-    unfolding leaves events flushAckOf flushAckAt
-    acks-sent =
-        let kept = f .ack-memory .kept in
-        let rest = pack (k .settings .mtu) (take (k .acklist .waiting) (m .waiting)) (ackBytes (toldOf k) (acksOf (m .acks) (k .acklist .acks))) .1 in
-        let small : length rest ≤ 1500 = rest-small k (m .acks) w (f .own .settings .mtu .high) (f .own .acklist .waiting) kept in
+    abbrev Acked : Out → Type 0
+    Acked o = Aside (ackedTo o)
+
+    -- what waits after the acks are packed
+    abbrev rest : List ℕ
+    rest = pack (k .settings .mtu) (take (k .acklist .waiting) (m .waiting)) (ackBytes (toldOf k) (acksOf (m .acks) (k .acklist .acks))) .1
+
+    acked-aside : Aside (record { block = acked k (length rest); rcv = m .rcv; acks = m .acks; waiting = put (m .waiting) 0 rest; snd = m .snd })
+    acked-aside =
+        let kept = f .lists .memory .kept in
+        let small : length rest ≤ 1500 = rest-small k (m .acks) w (f .settings .mtu .high) (f .lists .held) kept in
         let same : length (put (m .waiting) 0 rest) ≡ length (m .waiting) = put-length (m .waiting) 0 rest (omega arith) in
-        beside refl refl
-        (pick-of Fit _
-        (λ _. pick-of Fit _
-        (λ _. pick-of Fit _ (λ _. unsent-aside)
-        (record {
+        record {
           whole = record {
-            sizes = rw same;
             fine = record {
-              good = f .good;
-              low = f .low;
-              sizes = f .sizes;
-              own = record { settings = f .own .settings; probe = f .own .probe; receiver = f .own .receiver; sender = f .own .sender; acklist = record { acks = zero-le; waiting = small } };
-              sound = f .sound;
-              send-sizes = f .send-sizes;
-              flies = f .flies;
-              window = f .window;
-              ack-memory = rw same (f .ack-memory);
-              few = zero-le;
+              settings = f .settings;
+              probe = f .probe;
+              receives = f .receives;
+              sends = f .sends;
+              lists = record { memory = rw same (f .lists .memory); few = zero-le; held = small };
             };
+            sizes = rw same;
           };
           rcv = refl;
           receiver = refl;
-        }))
-        unsent-aside)
-        unsent-aside)
-      where
-        Fit : Out → Type 0
-        Fit o = Aside (ackedTo o)
+        }
+
+    acks-sent : To (callFlushAck out lengths) m (ackedTo (flushAckOf k (m .acks) w)) []
+    unfolding leaves events flushAckOf flushAckAt
+    acks-sent = beside refl refl (pick-of Acked _ (λ _. pick-of Acked _ (λ _. pick-of Acked _ (λ _. unsent-aside) acked-aside) unsent-aside) unsent-aside)
 
     abbrev Flown : FlushOut → Type 0
     Flown o = Aside (flushedTo m o)
@@ -436,41 +372,28 @@ module _ (m : Memory) (f : Fine m) where
       abbrev b : Kcp
       b = withClock k c
 
-      abbrev st : Store
-      st = storeOf 8 (m .snd)
-
       abbrev done : Kcp
       done = afterFlush b (movedAt b st .sender .ring) (flushed (outgoing b st (m .acks) (m .waiting)) .after)
 
       flown : Whole m (record { block = done; rcv = m .rcv; acks = m .acks; waiting = m .waiting; snd = listsOf (flownStore b st) })
       unfolding flushed outgoing
       flown =
-          let sound = out-sound b st (f .sound) in
-          let back = store-back (flownStore b st) (sound .shaped .sized) in
-          let large = out-large b st (f .sound) in
-          let slim = f .send-sizes .few .high in
-          let marks = large .marks ∙ marks-length 8 (m .snd) in
-          record {
-            sizes = rw (records-back (m .snd) (flownStore b st) large, room-back (m .snd) (flownStore b st) large);
-            fine = record {
-              good = f .good;
-              low = f .low;
-              sizes = f .sizes;
-              own = record {
-                settings = f .own .settings;
-                probe = record { wait = probe-fits (c .current) (k .probe) (f .own .probe) (k .congestion .«rmt_wnd») .wait };
-                receiver = f .own .receiver;
-                sender = sender-fits-of (done .sender) (flownStore b st) sound (omega arith);
-                acklist = record { acks = zero-le; waiting = zero-le };
-              };
-              sound = rw back sound;
-              send-sizes = sizes-back (m .snd) (flownStore b st) large (f .send-sizes);
-              flies = rw back (flush-flies b st (m .acks) (m .waiting) (f .sound) (f .flies) (f .window));
-              window = rw (flush-window (k .settings .mss) (k .congestion) _ _ _ _ _) (f .window);
-              ack-memory = f .ack-memory;
-              few = zero-le;
+          let o = f .sends .sound in
+          let large = out-large b st o in
+          laid
+          (record {
+            settings = f .settings;
+            probe = record { wait = probe-fits (c .current) (k .probe) (f .probe) (k .congestion .«rmt_wnd») .wait };
+            receives = f .receives;
+            sends = record {
+              sound = out-sound b st o;
+              flies = flush-flies b st (m .acks) (m .waiting) o (f .sends .flies) (f .sends .narrow);
+              slots = rw (large .marks) (f .sends .slots);
+              narrow = rw (flush-window (k .settings .mss) (k .congestion) _ _ _ _ _) (f .sends .narrow);
             };
-          }
+            lists = record { memory = f .lists .memory; few = zero-le; held = zero-le };
+          })
+          large refl refl refl refl
 
       flush-aside : Flown (flushAt k b st (m .acks) w)
       unfolding flushAt
@@ -492,7 +415,7 @@ module _ (m : Memory) (f : Fine m) where
         (pick-of Flown _
         (λ _. pick-of Flown _ (λ _. flush-aside c)
         (subst Aside (ap (λ (l : Lists). record { block = withClock k c; rcv = m .rcv; acks = m .acks; waiting = m .waiting; snd = l }) (sym (lists-back (m .snd))))
-        (record { whole = whole-beside (unmoved refl) (f .good) (f .low); rcv = refl; receiver = refl })))
+        (record { whole = whole-beside (unmoved refl) good low; rcv = refl; receiver = refl })))
         (unflown BadPool))
 
   -- ---- input
@@ -501,56 +424,32 @@ module _ (m : Memory) (f : Fine m) where
     abbrev start : Met
     start = metOf k (m .rcv) (m .acks) (storeOf 8 (m .snd))
 
-    start-fit : Fit start
-    start-fit = record { good = f .good; low = f .low; sound = f .sound; flies = f .flies; few = f .few }
-
     abbrev arrived : ReadOut → Memory
     arrived o = record { block = o .block; rcv = o .rcv; acks = o .acks; waiting = m .waiting; snd = listsOf (o .snd) }
 
-    -- what a walk leaves is fine, with a send store that is sound
-    module _ (n : Met) (x : Stays start n) where
-      fine-met : (b : Kcp) → b .settings ≡ n .block .settings → b .receiver ≡ n .block .receiver → b .acklist ≡ n .block .acklist → b .probe ≡ n .block .probe
-          → b .sender ≡ n .block .sender → b .congestion .«snd_wnd» ≡ n .block .congestion .«snd_wnd»
-          → (q : Store) → Sound 8 (n .block .sender .ring) q → Flies (n .block .sender) q → AsLarge (n .snd) q
-          → Whole m (record { block = b; rcv = n .rcv; acks = n .acks; waiting = m .waiting; snd = listsOf q })
-      fine-met b settings receiver acklist probe sender window q sound flies large =
-          let back = store-back q (sound .shaped .sized) in
-          let whole : AsLarge (storeOf 8 (m .snd)) q =
-          record { marks = large .marks ∙ x .kept .snd .marks; rows = large .rows ∙ x .kept .snd .rows; room = large .room ∙ x .kept .snd .room } in
-          let few = rw (x .kept .acks) at (x .fit .few) in
-          let many = f .ack-memory .listed .high in
-          let slim = f .send-sizes .few .high in
-          let marks = whole .marks ∙ marks-length 8 (m .snd) in
-          let mtu = x .kept .mtu in
-          record {
-            sizes = rw (x .kept .records, x .kept .room, records-back (m .snd) q whole, room-back (m .snd) q whole, x .kept .acks);
-            fine = record {
-              good = rw receiver (x .fit .good);
-              low = rw receiver (x .fit .low);
-              sizes = rw (x .kept .records, x .kept .room) (f .sizes);
-              own = record {
-                settings = rw settings (record { mtu = rw mtu (f .own .settings .mtu); mss = x .kept .mss ∙ f .own .settings .mss ∙ rw mtu });
-                probe = rw probe (record { wait = rw (x .kept .probe) (f .own .probe .wait) });
-                receiver = rw receiver (x .fit .good .fits);
-                sender = rw sender (sender-fits-of (n .block .sender) q sound (omega arith));
-                acklist = rw acklist (record { acks = omega arith; waiting = rw (x .kept .waiting) (f .own .acklist .waiting) });
-              };
-              sound = rw (sender, back) sound;
-              send-sizes = sizes-back (m .snd) q whole (f .send-sizes);
-              flies = rw (sender, back) flies;
-              window = rw (window, x .kept .window) (f .window);
-              ack-memory = rw (x .kept .acks) (f .ack-memory);
-              few = rw acklist (x .fit .few);
-            };
-          }
-
-      fine-finished : (e : End) → Whole m (arrived (finished k n e))
-      unfolding finished
-      fine-finished (through c) =
-          fine-met _ refl refl refl refl refl (input-window (k .settings .mss) (n .block .congestion) (k .sender .«snd_una») (n .block .sender .«snd_una»)) _ (fastack-sound (n .latest) (n .block .sender) (n .snd) (x .fit .sound))
-          (fastack-flies (n .block .sender) (n .snd) (x .fit .sound) (x .fit .flies) (n .latest))
-          (fastack-slots (n .latest) (n .block .sender) (n .snd) (x .fit .sound))
-      fine-finished (stopped why) = fine-met _ refl refl refl refl refl refl _ (x .fit .sound) (x .fit .flies) (record { marks = refl; rows = refl; room = refl })
+    -- what a walk leaves is fine, and so behind its end
+    whole-finished : (n : Met) → Stays (m .waiting) start n → (e : End) → Whole m (arrived (finished k n e))
+    unfolding finished
+    whole-finished n x (through c) =
+        let g = x .fine in
+        let o = g .sends .sound in
+        let large = fastack-slots (n .latest) (n .block .sender) (n .snd) o in
+        laid
+        (record {
+          settings = g .settings;
+          probe = g .probe;
+          receives = g .receives;
+          sends = record {
+            sound = fastack-sound (n .latest) (n .block .sender) (n .snd) o;
+            flies = fastack-flies (n .block .sender) (n .snd) o (g .sends .flies) (n .latest);
+            slots = rw (large .marks) (g .sends .slots);
+            narrow = rw (input-window (k .settings .mss) (n .block .congestion) (k .sender .«snd_una») (n .block .sender .«snd_una»)) (g .sends .narrow);
+          };
+          lists = g .lists;
+        })
+        (record { marks = large .marks ∙ x .snd .marks; rows = large .rows ∙ x .snd .rows; room = large .room ∙ x .snd .room })
+        (x .records) (x .room) (x .acks) refl
+    whole-finished n x (stopped why) = laid (x .fine) (x .snd) (x .records) (x .room) (x .acks) refl
 
     finished-seen : (n : Met) (e : End) → seenIn (arrived (finished k n e)) ≡ seenMet n
     unfolding finished
@@ -558,20 +457,20 @@ module _ (m : Memory) (f : Fine m) where
     finished-seen n (stopped why) = refl
 
     -- after j segments
-    pub inside : length s ≤ 1500 → (j : ℕ) → WalksTo slots start (walkFrom s j 0 start) (pushesFrom s j 0 start)
-    inside short j = from s short bytes slots j 0 start start-fit
+    pub inside : length s ≤ 1500 → (j : ℕ) → WalksTo (m .waiting) slots start (walkFrom s j 0 start) (pushesFrom s j 0 start)
+    inside short j = from (m .waiting) s short bytes slots j 0 start f
 
     -- it is read
     read : leb 24 (length s) ≡ true → leb (length s) 1500 ≡ true → To (callInput s bytes) m (arrived (readAt k (m .rcv) (m .acks) (storeOf 8 (m .snd)) s)) (pushesOf s start)
     unfolding leaves events inputOf readAt
     read l h =
         let short = leb-true (length s) 1500 h in
-        let x = walks s short bytes slots start start-fit in
+        let x = walks (m .waiting) s short bytes slots start f in
         let w = walkOf s start in
         record {
           is = ap arrived (pick-true _ _ (input-fits m f) ∙ pick-false _ _ (le-ltb 1500 (length s) short) ∙ pick-false _ _ (le-ltb (length s) 24 (leb-true 24 (length s) l)));
           has = rw (input-fits m f, l, h);
-          whole = fine-finished (w .met) (x .stays) (w .end);
+          whole = whole-finished (w .met) (x .stays) (w .end);
           small = x .small;
           sees = λ r e. x .runs r e ∙ sym (finished-seen (w .met) (w .end));
         }

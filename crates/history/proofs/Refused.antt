@@ -1,6 +1,6 @@
 -- A call that is refused by 15 leaves the block and all that it is handed, and does nothing to the receive side. Assumes nothing.
 use mathlib.Core.Path.{_≡_, refl, ap, _∙_}
-use mathlib.Core.Bool.{Bool, false}
+use mathlib.Core.Bool.{false}
 use mathlib.Core.List.{[]}
 use Rattle.serial.specs.Branch.{pick-false}
 use Rattle.block.specs.declared.set.Set.{Set}

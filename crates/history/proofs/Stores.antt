@@ -1,5 +1,5 @@
 -- The two lent lists of the send side and their marks, rows and room: each gives back the other. Assumes nothing.
-use Prim.Native.Nat.{_+_, _/_}
+use Prim.Native.Nat.{_/_}
 use native.Mathlib.Omega.{arith}
 use mathlib.Core.Path.{_≡_, refl, sym, ap, _∙_}
 use mathlib.Core.List.{_++_}
@@ -9,7 +9,6 @@ use Rattle.ring.specs.Lists.{Lists}
 use Rattle.snd_ring.specs.Store.{Store, storeOf, Sized}
 use Rattle.snd_ring.proofs.Splits.{store-records, store-room}
 use Rattle.transmit.proofs.Seen.{AsLarge}
-use Rattle.block.specs.Sizes.{sendSlots, RingSizes}
 use Rattle.history.specs.Calls.{listsOf, Memory}
 
 pub lists-back : (l : Lists) → listsOf (storeOf 8 l) ≡ l
@@ -35,7 +34,3 @@ module _ (l : Lists) (m : Store) (x : AsLarge (storeOf 8 l) m) where
 
   pub room-back : length (m .room) ≡ length (l .room)
   room-back = x .room ∙ ap length (store-room 8 l)
-
-  pub sizes-back : RingSizes 128 1024 (sendSlots (length (l .records))) 9 (length (l .records)) (length (l .room))
-      → RingSizes 128 1024 (sendSlots (length (listsOf m .records))) 9 (length (listsOf m .records)) (length (listsOf m .room))
-  sizes-back z = rw (records-back, room-back) z

@@ -137,8 +137,9 @@ pub record SoundCalls (start : Memory) (h : History) : Type 0 where
   -- the block holds what it was lent, no more and no less, and at most A acks
   pub lent : sizesOf (h .now) ≡ sizesOf start
   pub acks : h .now .block .acklist .acks ≤ pairs (length (h .now .acks))
-  -- no call that is handed the block's own memory is refused by 15
+  -- no call that is handed the block's own memory is refused by 15, and one that is, on other memory, leaves everything, the other memory too
   pub passed : (c : Call) → passes c (h .now) ≡ true
+  pub refused : (l : Lent) (c : Call) → passes c (lentTo (h .now .block) l) ≡ false → (step h (onOther l c) ≡ h) × (leaves c (lentTo (h .now .block) l) ≡ lentTo (h .now .block) l)
   pub rising : Rising (h .now)
   -- and snd_nxt lies no farther past snd_una than the largest send window
   pub near : distance (h .now .block .sender .«snd_una») (h .now .block .sender .«snd_nxt») ≤ 65535
