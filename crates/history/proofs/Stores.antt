@@ -1,5 +1,5 @@
 -- The two lent lists of the send side and their marks, rows and room: each gives back the other. Assumes nothing.
-use Prim.Native.Nat.{_+_, _/_}
+use Prim.Native.Nat.{_/_}
 use native.Mathlib.Omega.{arith}
 use mathlib.Core.Path.{_≡_, refl, sym, ap, _∙_}
 use mathlib.Core.List.{_++_}
@@ -9,8 +9,7 @@ use Rattle.ring.specs.Lists.{Lists}
 use Rattle.snd_ring.specs.Store.{Store, storeOf, Sized}
 use Rattle.snd_ring.proofs.Splits.{store-records, store-room}
 use Rattle.transmit.proofs.Seen.{AsLarge}
-use Rattle.block.specs.Sizes.{sendSlots, RingSizes}
-use Rattle.history.specs.History.{listsOf}
+use Rattle.history.specs.Calls.{listsOf, Memory}
 
 pub lists-back : (l : Lists) → listsOf (storeOf 8 l) ≡ l
 lists-back l = let a = store-records 8 l in let b = store-room 8 l in rw (a, b)
@@ -23,12 +22,15 @@ store-back m z =
     let n : length (m .marks ++ m .rows) / 9 ≡ length (m .marks) = omega arith in
     rw (n, take-at (m .marks) (m .rows) (length (m .marks)) refl, drop-at (m .marks) (m .rows) (length (m .marks)) refl)
 
--- a store that is as large as that of lists within the limits has lists within the limits
-pub sizes-back : (l : Lists) (m : Store) → AsLarge (storeOf 8 l) m
-    → RingSizes 128 1024 (sendSlots (length (l .records))) 9 (length (l .records)) (length (l .room))
-    → RingSizes 128 1024 (sendSlots (length (listsOf m .records))) 9 (length (listsOf m .records)) (length (listsOf m .room))
-sizes-back l m x z =
-    let a : length (m .marks ++ m .rows) ≡ length (l .records) =
-    length-append (m .marks) (m .rows) ∙ rw (x .marks, x .rows) (sym (length-append (storeOf 8 l .marks) (storeOf 8 l .rows)) ∙ ap length (store-records 8 l)) in
-    let b : length (m .room) ≡ length (l .room) = x .room ∙ ap length (store-room 8 l) in
-    rw (a, b) z
+-- what is as it was
+pub as-it-was : (m : Memory) → record { block = m .block; rcv = m .rcv; acks = m .acks; waiting = m .waiting; snd = listsOf (storeOf 8 (m .snd)) } ≡ m
+as-it-was m = ap (λ (l : Lists). record { block = m .block; rcv = m .rcv; acks = m .acks; waiting = m .waiting; snd = l }) (lists-back (m .snd))
+
+-- a store that is as large as that of lists has lists that are as long
+module _ (l : Lists) (m : Store) (x : AsLarge (storeOf 8 l) m) where
+  pub records-back : length (listsOf m .records) ≡ length (l .records)
+  records-back =
+      length-append (m .marks) (m .rows) ∙ rw (x .marks, x .rows) (sym (length-append (storeOf 8 l .marks) (storeOf 8 l .rows)) ∙ ap length (store-records 8 l))
+
+  pub room-back : length (m .room) ≡ length (l .room)
+  room-back = x .room ∙ ap length (store-room 8 l)

@@ -12,7 +12,6 @@ use Rattle.serial.specs.Branch.{pick}
 use Rattle.serial.specs.Window.{acknowledged}
 use Rattle.ring.specs.Records.{putSlot}
 use Rattle.ring.proofs.Rows.{putSlot-length}
-use Rattle.snd_ring.specs.Store.{Store, Sound}
 use Rattle.wire.specs.declared.Header.{Header}
 use Rattle.wire.specs.declared.Kind.{Kind}
 use Rattle.wire.specs.declared.Kind.the-variants.{Push, Ack, Ask, Tell}
@@ -25,7 +24,6 @@ use Rattle.receiving.specs.Rules.{Segment, Receiving, skipped, listed, push}
 use Rattle.receiving.specs.History.{Event, AllSmall, leaves, step, runFrom}
 use Rattle.receiving.specs.History as rules
 use Rattle.receive.specs.Memory.{seen, fullAt, acksAt, listAt}
-use Rattle.receive.specs.Fits.{Good}
 use Rattle.receive.proofs.Seen.{seen-push, push-length, push-good, push-next}
 use Rattle.transmit.proofs.Seen.{AsLarge, una-sound, ack-sound, ack-slots}
 use Rattle.input.specs.declared.Verdict.{Verdict}
@@ -34,97 +32,95 @@ use Rattle.input.specs.Segment.{Met, withBlock, End, through, stopped, Walked, 
 use Rattle.input.specs.Datagram.{onward, walkFrom, walkOf}
 use Rattle.history.specs.Pushes.{pushBy, pushAtSegment, behind, pushesFrom, pushesOf}
 use Rattle.history.proofs.Segments.{pick-of, fits-left, payload-fits, adopted-receiver, adopted-acklist, knownAt, segment-by}
-use Rattle.history.proofs.Rising.{Flies, una-flies, ack-flies}
+use Rattle.history.proofs.Rising.{una-flies, ack-flies}
+use Rattle.history.proofs.Fine.{FineIn}
 
 -- the receive side as it is seen
 abbrev pub seenMet : Met → Receiving
 seenMet m = seen (m .block .receiver) (m .rcv)
 
--- what holds of the memory between two segments; at most A acks
-pub record Fit (m : Met) : Type 0 where
-  pub good : Good (m .block .receiver) (m .rcv)
-  pub low : m .block .receiver .«rcv_nxt» < 2 ^ 32
-  pub sound : Sound 8 (m .block .sender .ring) (m .snd)
-  pub flies : Flies (m .block .sender) (m .snd)
-  pub few : m .block .acklist .acks ≤ pairs (length (m .acks))
-
--- what a segment does not change
-pub record Kept (m n : Met) : Type 0 where
+-- n is fine, with these bytes that may wait, and as large as m
+pub record Stays (waiting : List ℕ) (m n : Met) : Type 0 where
+  pub fine : FineIn (n .block) (n .rcv) (n .acks) waiting (n .snd)
   pub records : length (n .rcv .records) ≡ length (m .rcv .records)
   pub room : length (n .rcv .room) ≡ length (m .rcv .room)
-  pub snd : AsLarge (m .snd) (n .snd)
   pub acks : length (n .acks) ≡ length (m .acks)
-  pub waiting : n .block .acklist .waiting ≡ m .block .acklist .waiting
-  pub probe : n .block .probe .«probe_wait» ≡ m .block .probe .«probe_wait»
-  pub mtu : n .block .settings .mtu ≡ m .block .settings .mtu
-  pub mss : n .block .settings .mss ≡ m .block .settings .mss
+  pub snd : AsLarge (m .snd) (n .snd)
 
-pub record Stays (m n : Met) : Type 0 where
-  pub fit : Fit n
-  pub kept : Kept m n
+abbrev pub Fit : List ℕ → Met → Type 0
+Fit waiting m = FineIn (m .block) (m .rcv) (m .acks) waiting (m .snd)
 
-large-none : (m : Store) → AsLarge m m
-large-none m = record { marks = refl; rows = refl; room = refl }
-
-kept-none : (m : Met) → Kept m m
-kept-none m = record { records = refl; room = refl; snd = large-none (m .snd); acks = refl; waiting = refl; probe = refl; mtu = refl; mss = refl }
-
-kept-both : {a b c : Met} → Kept a b → Kept b c → Kept a c
-kept-both x y = record {
+stays-both : {waiting : List ℕ} {a b c : Met} → Stays waiting a b → Stays waiting b c → Stays waiting a c
+stays-both x y = record {
+  fine = y .fine;
   records = y .records ∙ x .records;
   room = y .room ∙ x .room;
-  snd = record { marks = y .snd .marks ∙ x .snd .marks; rows = y .snd .rows ∙ x .snd .rows; room = y .snd .room ∙ x .snd .room };
   acks = y .acks ∙ x .acks;
-  waiting = y .waiting ∙ x .waiting;
-  probe = y .probe ∙ x .probe;
-  mtu = y .mtu ∙ x .mtu;
-  mss = y .mss ∙ x .mss;
+  snd = record { marks = y .snd .marks ∙ x .snd .marks; rows = y .snd .rows ∙ x .snd .rows; room = y .snd .room ∙ x .snd .room };
 }
 
-stays-none : (m : Met) → Fit m → Stays m m
-stays-none m f = record { fit = f; kept = kept-none m }
+-- with the memory as it was
+stays-in : {waiting : List ℕ} (m : Met) (k : Kcp) → Fit waiting (withBlock m k) → Stays waiting m (withBlock m k)
+stays-in m k f = record { fine = f; records = refl; room = refl; acks = refl; snd = record { marks = refl; rows = refl; room = refl } }
 
-stays-both : {a b c : Met} → Stays a b → Stays b c → Stays a c
-stays-both x y = record { fit = y .fit; kept = kept-both (x .kept) (y .kept) }
+-- what the walk w from m leaves, with these events
+pub record WalksTo (waiting : List ℕ) (slots : ℕ) (m : Met) (w : Walked) (es : List Event) : Type 0 where
+  pub stays : Stays waiting m (w .met)
+  pub small : AllSmall es
+  pub runs : (r : rules.Past) → r .now ≡ seenMet m → runFrom slots r es .now ≡ seenMet (w .met)
 
 -- ---- one segment
 
-module _ (m : Met) (f : Fit m) where
-  stays-adopted : (met : ℕ) → Stays m (withBlock m (adopted met (m .block)))
+module _ (waiting : List ℕ) (m : Met) (f : Fit waiting m) where
+  stays-adopted : (met : ℕ) → Stays waiting m (withBlock m (adopted met (m .block)))
   unfolding adopted
   stays-adopted met =
-      pick-of (λ (k : Kcp). Stays m (withBlock m k)) (adopts (m .block .settings .conv) (m .block .settings .«input_conv») met)
-      (λ h. record {
-        fit = record { good = f .good; low = f .low; sound = f .sound; flies = f .flies; few = f .few };
-        kept = record { records = refl; room = refl; snd = large-none (m .snd); acks = refl; waiting = refl; probe = refl; mtu = refl; mss = refl };
-      })
-      (stays-none m f)
+      stays-in m _
+      (pick-of (λ (k : Kcp). Fit waiting (withBlock m k)) (adopts (m .block .settings .conv) (m .block .settings .«input_conv») met)
+      (λ h. record { settings = record { mtu = f .settings .mtu; mss = f .settings .mss }; probe = f .probe; receives = f .receives; sends = f .sends; lists = f .lists })
+      f)
 
-  stays-begun : (h : Header) → Stays m (withBlock m (begun h (m .block) (m .snd)))
+  stays-begun : (h : Header) → Stays waiting m (withBlock m (begun h (m .block) (m .snd)))
   unfolding begun
-  stays-begun h = record {
-    fit = record {
-      good = f .good;
-      low = f .low;
-      sound = una-sound (h .una) (m .block .sender) (m .snd) (f .sound);
-      flies = una-flies (m .block .sender) (m .snd) (f .sound) (f .flies) (h .una);
-      few = f .few;
-    };
-    kept = record { records = refl; room = refl; snd = large-none (m .snd); acks = refl; waiting = refl; probe = refl; mtu = refl; mss = refl };
-  }
+  stays-begun h =
+      let o = f .sends .sound in
+      stays-in m _
+      (record {
+        settings = f .settings;
+        probe = f .probe;
+        receives = f .receives;
+        sends = record {
+          sound = una-sound (h .una) (m .block .sender) (m .snd) o;
+          flies = una-flies (m .block .sender) (m .snd) o (f .sends .flies) (h .una);
+          slots = f .sends .slots;
+          narrow = f .sends .narrow;
+        };
+        lists = f .lists;
+      })
 
-  stays-acked : (h : Header) → Stays m (ackedAt h m)
+  stays-acked : (h : Header) → Stays waiting m (ackedAt h m)
   unfolding ackedAt
-  stays-acked h = record {
-    fit = record {
-      good = f .good;
-      low = f .low;
-      sound = ack-sound (h .sn) (m .block .sender) (m .snd) (f .sound);
-      flies = ack-flies (m .block .sender) (m .snd) (f .sound) (f .flies) (h .sn);
-      few = f .few;
-    };
-    kept = record { records = refl; room = refl; snd = ack-slots (h .sn) (m .block .sender) (m .snd); acks = refl; waiting = refl; probe = refl; mtu = refl; mss = refl };
-  }
+  stays-acked h =
+      let o = f .sends .sound in
+      let large = ack-slots (h .sn) (m .block .sender) (m .snd) in
+      record {
+        fine = record {
+          settings = f .settings;
+          probe = f .probe;
+          receives = f .receives;
+          sends = record {
+            sound = ack-sound (h .sn) (m .block .sender) (m .snd) o;
+            flies = ack-flies (m .block .sender) (m .snd) o (f .sends .flies) (h .sn);
+            slots = rw (large .marks) (f .sends .slots);
+            narrow = f .sends .narrow;
+          };
+          lists = f .lists;
+        };
+        records = refl;
+        room = refl;
+        acks = refl;
+        snd = large;
+      }
 
   -- an ack joins a list that is not full
   module _ (x : Segment) (ts : ℕ) where
@@ -155,51 +151,46 @@ module _ (m : Met) (f : Fit m) where
             leb-false (pairs (length (m .acks))) (m .block .acklist .acks) (not-full (acknowledged (m .block .receiver .«rcv_nxt») (m .block .receiver .«rcv_wnd») (x .sn)) full e) in
             let same = putSlot-length 2 (m .acks) (m .block .acklist .acks) 0 (x .sn ∷ ts ∷ []) (omega arith) (omega arith) in
             (same, rw same (omega arith))
-        go false e = (refl, f .few)
+        go false e = (refl, f .lists .few)
 
     push-acks : (length (pushedAt x ts m .acks) ≡ length (m .acks)) × (pushedAt x ts m .block .acklist .acks ≤ pairs (length (pushedAt x ts m .acks)))
     unfolding pushedAt listAt acksAt
     push-acks = joined-list
 
     module _ (frg : x .frg < 65536) (fit : length (x .payload) ≤ 1476) where
-      stays-pushed : Stays m (pushedAt x ts m)
+      stays-pushed : Stays waiting m (pushedAt x ts m)
       unfolding pushedAt
-      stays-pushed = record {
-        fit = record {
-          good = push-good (f .good) x frg fit full;
-          low = push-next (f .good) x frg fit full (f .low);
-          sound = f .sound;
-          flies = f .flies;
-          few = push-acks .1;
-        };
-        kept = record {
-          records = push-length (f .good) x frg fit full .0;
-          room = push-length (f .good) x frg fit full .1;
-          snd = large-none (m .snd);
-          acks = push-acks .0;
-          waiting = refl;
-          probe = refl;
-          mtu = refl;
-          mss = refl;
-        };
-      }
+      stays-pushed =
+          let g = f .receives .good in
+          let long = push-length g x frg fit full in
+          record {
+            fine = record {
+              settings = f .settings;
+              probe = f .probe;
+              receives = record { good = push-good g x frg fit full; low = push-next g x frg fit full (f .receives .low); sizes = rw (long .0, long .1) (f .receives .sizes) };
+              sends = f .sends;
+              lists = record { memory = rw (push-acks .0) (f .lists .memory); few = push-acks .1; held = f .lists .held };
+            };
+            records = long .0;
+            room = long .1;
+            acks = push-acks .0;
+            snd = record { marks = refl; rows = refl; room = refl };
+          }
 
       pushed-seen : x .sn < 2 ^ 32 → seenMet (pushedAt x ts m) ≡ push full x (seenMet m)
       unfolding pushedAt
-      pushed-seen small = seen-push (f .good) x frg fit full (f .low) small
+      pushed-seen small = seen-push (f .receives .good) x frg fit full (f .receives .low) small
 
-  stays-effect : (h : Header) (payload : List ℕ) → h .frg < 65536 → length payload ≤ 1476 → (kind : Kind) → Stays m (effectAt kind h payload m)
+  stays-effect : (h : Header) (payload : List ℕ) → h .frg < 65536 → length payload ≤ 1476 → (kind : Kind) → Stays waiting m (effectAt kind h payload m)
   unfolding effectAt
   stays-effect h payload frg fit Push = stays-pushed (pushOf h payload) (h .ts) frg fit
   stays-effect h payload frg fit Ack = stays-acked h
-  stays-effect h payload frg fit Ask = record {
-    fit = record { good = f .good; low = f .low; sound = f .sound; flies = f .flies; few = f .few };
-    kept = record { records = refl; room = refl; snd = large-none (m .snd); acks = refl; waiting = refl; probe = refl; mtu = refl; mss = refl };
-  }
-  stays-effect h payload frg fit Tell = stays-none m f
+  stays-effect h payload frg fit Ask =
+      stays-in m _ (record { settings = f .settings; probe = record { wait = f .probe .wait }; receives = f .receives; sends = f .sends; lists = f .lists })
+  stays-effect h payload frg fit Tell = stays-in m (m .block) f
 
-module _ (s : List ℕ) (short : length s ≤ 1500) (bytes : Octets s) where
-  module _ (at : ℕ) (m : Met) (more : at + 24 ≤ length s) (f : Fit m) where
+module _ (waiting : List ℕ) (s : List ℕ) (short : length s ≤ 1500) (bytes : Octets s) where
+  module _ (at : ℕ) (m : Met) (more : at + 24 ≤ length s) (f : Fit waiting m) where
     abbrev h : Header
     h = headerAt s at
 
@@ -215,16 +206,16 @@ module _ (s : List ℕ) (short : length s ≤ 1500) (bytes : Octets s) where
     abbrev ready : Met
     ready = withBlock m (begun h (knownAt s at m more) (m .snd))
 
-    stays-known : Stays m known
-    stays-known = stays-adopted m f (h .conv)
+    stays-known : Stays waiting m known
+    stays-known = stays-adopted waiting m f (h .conv)
 
-    stays-ready : Stays m ready
-    stays-ready = stays-both stays-known (stays-begun known (stays-known .fit) h)
+    stays-ready : Stays waiting m ready
+    stays-ready = stays-both stays-known (stays-begun waiting known (stays-known .fine) h)
 
-    segment-stays : Stays m (segmentAt s at m .met)
+    segment-stays : Stays waiting m (segmentAt s at m .met)
     segment-stays =
-        segment-by s at m more (Stays m) stays-known
-        (λ kind l. stays-both stays-ready (stays-effect ready (stays-ready .fit) h (payloadAt s at (h .len)) frg-small (payload-fits s at (h .len) l short) kind))
+        segment-by s at m more (Stays waiting m) stays-known
+        (λ kind l. stays-both stays-ready (stays-effect waiting ready (stays-ready .fine) h (payloadAt s at (h .len)) frg-small (payload-fits s at (h .len) l short) kind))
 
     -- its events, if it has any, carry a number of 32 bits
     segment-small : AllSmall (pushAtSegment s at m)
@@ -262,7 +253,7 @@ module _ (s : List ℕ) (short : length s ≤ 1500) (bytes : Octets s) where
             let l = fits-left (m .block .settings .conv) (m .block .settings .«input_conv») h (length s - at - 24) Push q in
             ap (push (fullAt (m .block .acklist .acks) (m .acks)) x) (e ∙ sym ready-seen)
             ∙ ap (λ (n : ℕ). push (fullAt n (m .acks)) x (seenMet ready)) (sym (ap (λ a. a .acks) ready-acks))
-            ∙ sym (pushed-seen ready (stays-ready .fit) x (h .ts) frg-small (payload-fits s at (h .len) (omega arith) short) small)
+            ∙ sym (pushed-seen waiting ready (stays-ready .fine) x (h .ts) frg-small (payload-fits s at (h .len) (omega arith) short) small)
         go (Goes Ack) q = e ∙ sym ready-seen
         go (Goes Ask) q = e ∙ sym ready-seen
         go (Goes Tell) q = e ∙ sym ready-seen
@@ -270,15 +261,9 @@ module _ (s : List ℕ) (short : length s ≤ 1500) (bytes : Octets s) where
 
   -- ---- all of them
 
-  -- what the walk w from m leaves, with these events
-  record WalksTo (slots : ℕ) (m : Met) (w : Walked) (es : List Event) : Type 0 where
-    stays : Stays m (w .met)
-    small : AllSmall es
-    runs : (r : rules.Past) → r .now ≡ seenMet m → runFrom slots r es .now ≡ seenMet (w .met)
-
-  stands : (slots at : ℕ) (m : Met) → Fit m → WalksTo slots m (record { met = m; end = through at }) []
+  stands : (slots at : ℕ) (m : Met) → Fit waiting m → WalksTo waiting slots m (record { met = m; end = through at }) []
   unfolding runFrom
-  stands slots at m f = record { stays = stays-none m f; small = tt; runs = λ r e. e }
+  stands slots at m f = record { stays = stays-in m (m .block) f; small = tt; runs = λ r e. e }
 
   small-both : (a b : List Event) → AllSmall a → AllSmall b → AllSmall (a ++ b)
   small-both [] b x y = y
@@ -295,15 +280,15 @@ module _ (s : List ℕ) (short : length s ≤ 1500) (bytes : Octets s) where
 
   module _ (slots : ℕ) where
     -- a segment, and then what the rest of the walk leaves
-    after : (fuel at : ℕ) (m : Met) → Fit m → at + 24 ≤ length s
-        → ((next : ℕ) (n : Met) → Fit n → WalksTo slots n (walkFrom s fuel next n) (pushesFrom s fuel next n))
+    after : (fuel at : ℕ) (m : Met) → Fit waiting m → at + 24 ≤ length s
+        → ((next : ℕ) (n : Met) → Fit waiting n → WalksTo waiting slots n (walkFrom s fuel next n) (pushesFrom s fuel next n))
         → (e : End)
-        → WalksTo slots m (onward (λ next n. walkFrom s fuel next n) (record { met = segmentAt s at m .met; end = e }))
+        → WalksTo waiting slots m (onward (λ next n. walkFrom s fuel next n) (record { met = segmentAt s at m .met; end = e }))
         (pushAtSegment s at m ++ behind (λ next n. pushesFrom s fuel next n) (segmentAt s at m .met) e)
     unfolding onward behind
     after fuel at m f more rest (through next) =
         let x = segment-stays at m more f in
-        let y = rest next (segmentAt s at m .met) (x .fit) in
+        let y = rest next (segmentAt s at m .met) (x .fine) in
         record {
           stays = stays-both x (y .stays);
           small = small-both (pushAtSegment s at m) _ (segment-small at m more f) (y .small);
@@ -315,26 +300,18 @@ module _ (s : List ℕ) (short : length s ≤ 1500) (bytes : Octets s) where
       runs = λ z e. ap (λ (u : rules.Past). u .now) (run-both slots z (pushAtSegment s at m) []) ∙ last slots (runFrom slots z (pushAtSegment s at m)) ∙ segment-runs at m more f slots z e;
     }
 
-    from : (fuel at : ℕ) (m : Met) → Fit m → WalksTo slots m (walkFrom s fuel at m) (pushesFrom s fuel at m)
+    pub from : (fuel at : ℕ) (m : Met) → Fit waiting m → WalksTo waiting slots m (walkFrom s fuel at m) (pushesFrom s fuel at m)
     unfolding walkFrom pushesFrom pick
     from zero at m f = stands slots at m f
     from (suc fuel) at m f = go (leb (at + 24) (length s)) refl (λ next n x. from fuel next n x)
       where
         go : (b : Bool) → leb (at + 24) (length s) ≡ b
-            → ((next : ℕ) (n : Met) → Fit n → WalksTo slots n (walkFrom s fuel next n) (pushesFrom s fuel next n))
-            → WalksTo slots m (pick b (onward (λ next n. walkFrom s fuel next n) (segmentAt s at m)) (record { met = m; end = through at }))
+            → ((next : ℕ) (n : Met) → Fit waiting n → WalksTo waiting slots n (walkFrom s fuel next n) (pushesFrom s fuel next n))
+            → WalksTo waiting slots m (pick b (onward (λ next n. walkFrom s fuel next n) (segmentAt s at m)) (record { met = m; end = through at }))
             (pick b (pushAtSegment s at m ++ behind (λ next n. pushesFrom s fuel next n) (segmentAt s at m .met) (segmentAt s at m .end)) [])
         go true e rest = after fuel at m f (leb-true (at + 24) (length s) e) rest (segmentAt s at m .end)
         go false e rest = stands slots at m f
 
-    pub walks : (m : Met) → Fit m → Stays m (walkOf s m .met)
-    unfolding walkOf
-    walks m f = from (length s) 0 m f .stays
-
-    pub pushes-small : (m : Met) → Fit m → AllSmall (pushesOf s m)
-    unfolding pushesOf
-    pushes-small m f = from (length s) 0 m f .small
-
-    pub walk-runs : (m : Met) → Fit m → (r : rules.Past) → r .now ≡ seenMet m → runFrom slots r (pushesOf s m) .now ≡ seenMet (walkOf s m .met)
+    pub walks : (m : Met) → Fit waiting m → WalksTo waiting slots m (walkOf s m) (pushesOf s m)
     unfolding walkOf pushesOf
-    walk-runs m f = from (length s) 0 m f .runs
+    walks m f = from (length s) 0 m f

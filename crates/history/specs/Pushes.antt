@@ -12,7 +12,7 @@ use Rattle.receiving.specs.History.{Event, eventPush}
 use Rattle.receive.specs.Memory.{fullAt}
 use Rattle.input.specs.declared.Verdict.{Verdict}
 use Rattle.input.specs.declared.Verdict.the-variants.{Goes, Refused}
-use Rattle.input.specs.Segment.{Met, End, through, stopped, Walked, verdictOf, pushOf, payloadAt, segmentAt}
+use Rattle.input.specs.Segment.{Met, End, through, stopped, verdictOf, pushOf, payloadAt, segmentAt}
 
 -- the push of a segment, if it is one; whether the ack list is full is asked when its turn comes
 unfoldable pub pushBy : List ℕ → ℕ → Header → Met → Verdict → List Event

@@ -51,7 +51,7 @@ module _ (k : Kcp) (acks : List ℕ) (w : Writing) where
   by-packing =
       pick-ap (outOf k) (exceeds (roomOf w) (map length (packed .0))) (NoRoom, w) (Sent (length (packed .0)) (length (packed .1)), putOut packed w)
 
-  rest-small : k .settings .mtu ≤ 1500 → held ≤ 1500 → length (w .waiting) ≡ 1500 → length (packed .1) ≤ 1500
+  pub rest-small : k .settings .mtu ≤ 1500 → held ≤ 1500 → length (w .waiting) ≡ 1500 → length (packed .1) ≤ 1500
   rest-small m h l =
       rw (pack-rest (k .settings .mtu) (take held (w .waiting)) (ackBytes (toldOf k) (acksOf acks n)), ack-sizes (toldOf k) acks 0 n)
       (rest-most (k .settings .mtu) 1500 m (length (take held (w .waiting))) (replicate n 24) (let a = length-take-le held (w .waiting) (omega arith) in omega arith) (each-alike 1500 24 n (omega arith)))

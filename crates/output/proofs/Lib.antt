@@ -1,5 +1,5 @@
-mod AckFlush
-mod Found
+pub mod AckFlush
+pub mod Found
 mod Sizes
 mod Rears
 mod Whole
