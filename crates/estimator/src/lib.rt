@@ -75,3 +75,20 @@ impl Estimator {
         self
     }
 }
+
+// Keeps the estimator up to date, where it stands, after an ack of what was sent at ts.
+pub fn update_ack(estimator: &mut Estimator, current: u32, ts: u32, interval: u32)
+    ensures { λ _. ⌜ now (estimator .exit) ≡ acked (now (estimator .entry)) current ts interval ⌝ }
+{
+    let old = *estimator;
+    *estimator = old.acked(current, ts, interval);
+}
+
+// The same from a value to a value: the local is lent, so that whoever calls it is handed no reference.
+pub fn after_ack(estimator: Estimator, current: u32, ts: u32, interval: u32) -> Estimator
+    ensures { λ r. ⌜ r ≡ acked estimator current ts interval ⌝ }
+{
+    let mut kept = estimator;
+    update_ack(&mut kept, current, ts, interval);
+    kept
+}

@@ -13,6 +13,7 @@ use block::Kcp;
 use block::congestion::Congestion;
 use block::refusal::Bytes;
 use block::refusal::Refusal;
+use estimator::after_ack;
 use sending::Latest;
 use sending::Window;
 use wire::Command;
@@ -150,12 +151,10 @@ fn ack(walk: Walk, snd_records: &mut [u32], h: Header) -> Walk
     let block = walk.block;
     let latest = walk.latest;
     let clock = block.clock;
-    let estimator = block.estimator;
     let sender = transmit::parse_ack(block.sender, snd_records, h.sn);
+    let measured = after_ack(block.estimator, clock.current, h.ts, clock.interval);
     Walk {
-        block: block
-            .with_estimator(estimator.acked(clock.current, h.ts, clock.interval))
-            .with_sender(sender),
+        block: block.with_estimator(measured).with_sender(sender),
         latest: latest.later(h.sn, h.ts),
         skipped: walk.skipped,
     }
