@@ -9,6 +9,7 @@ use Rattle.ring.specs.Lists.{Lists}
 use Rattle.snd_ring.specs.Store.{Store, storeOf, Sized, Sound}
 use Rattle.snd_ring.proofs.Splits.{marks-length, rows-length, store-room}
 use Rattle.block.specs.declared.Kcp.{Kcp}
+use Rattle.block.specs.declared.congestion.Congestion.{Congestion}
 use Rattle.block.specs.declared.receiver.Receiver.{Receiver}
 use Rattle.block.specs.declared.acklist.AckList.{AckList}
 use Rattle.block.specs.declared.sender.Sender.{Sender}
@@ -22,6 +23,7 @@ use Rattle.transmit.proofs.Exact.{exactly as send-exactly, lent-exactly as send
 use Rattle.kcp_input.specs.Input.{inputFits}
 use Rattle.kcp_flush.proofs.Calls.{ack-exactly, flush-exactly}
 use Rattle.history.specs.Calls.{Call, callInput, callSend, callMoveBuf, callPeeksize, callRecv, callFlushAck, callFlush, callUpdate, callCheck, callSetWndsize, callSet, callGet, Memory, passes}
+use Rattle.history.specs.History.{Short}
 use Rattle.history.proofs.Rising.{Flies}
 
 -- ---- the parts
@@ -32,11 +34,11 @@ pub record FineReceive (r : Receiver) (l : Lists) : Type 0 where
   pub sizes : RingSizes 256 1024 (length (l .records)) 1 (length (l .records)) (length (l .room))
 
 -- a send window has 16 bits, so that the numbers in flight never come round
-pub record FineSend (s : Sender) (window : ℕ) (m : Store) : Type 0 where
+pub record FineSend (s : Sender) (c : Congestion) (m : Store) : Type 0 where
   pub sound : Sound 8 (s .ring) m
   pub flies : Flies s m
   pub slots : Within 128 (length (m .marks)) 1024
-  pub narrow : window < 65536
+  pub narrow : Short c
 
 -- the limits of the ack memory, "at most A acks", "at most 1,500 waiting bytes"
 pub record FineAcks (a : AckList) (acks waiting : List ℕ) : Type 0 where
@@ -48,7 +50,7 @@ pub record FineIn (k : Kcp) (rcv : Lists) (acks waiting : List ℕ) (m : Store) 
   pub settings : SettingsFit (k .settings)
   pub probe : ProbeFits (k .probe)
   pub receives : FineReceive (k .receiver) rcv
-  pub sends : FineSend (k .sender) (k .congestion .«snd_wnd») m
+  pub sends : FineSend (k .sender) (k .congestion) m
   pub lists : FineAcks (k .acklist) acks waiting
 
 abbrev pub Fine : Memory → Type 0

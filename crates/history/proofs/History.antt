@@ -125,6 +125,7 @@ module _ (start : Memory) where
       passed = passes-own (h .now) (kept .fine);
       refused = λ l c e. (refused-turn h l c e, bad-leaves c (lentTo (h .now .block) l) e);
       rising = kept .fine .sends .flies .order;
+      short = kept .fine .sends .narrow;
       near = kept .fine .sends .flies .near;
     }
 
@@ -181,7 +182,7 @@ module _ (conv : ℕ) (stream : Bool) (interval : ℕ) (l : Lent) (sizes : lentS
             sound = fresh-sound (l .snd) y;
             flies = fresh-flies freshSender (storeOf 8 (l .snd)) (omega arith) refl refl;
             slots = rw (marks-length 8 (l .snd)) (y .few);
-            narrow = omega arith;
+            narrow = record { snd = omega arith; rmt = omega arith; cwnd = omega arith; ssthresh = omega arith };
           };
           lists = record { memory = ack-sizes (length (l .acks)) (length (l .waiting)) .holds (and-right (receive && send) ack sizes); few = zero-le; held = zero-le };
         };

@@ -55,10 +55,10 @@ use Rattle.kcp_send.specs.Send.{SendOut, sendOf}
 use Rattle.kcp_input.specs.Input.{inputOf}
 use Rattle.kcp_flush.specs.Calls.{flushAckOf, unflushed, flushOf, updateOf}
 use Rattle.history.specs.Calls.{Call, callInput, callSend, callMoveBuf, callPeeksize, callRecv, callFlushAck, callFlush, callUpdate, callCheck, callSetWndsize, callSet, callGet, Setting, ofMtu, ofInterval, ofNodelay, ofRxMinrto, ofFastResend, ofMaximumResendTimes, ofInputConv, ofConv, setBy, listsOf, Memory, withBlock, toWrite, flushedTo, leaves, seenIn, unlessBad, events}
-use Rattle.history.specs.History.{sizesOf}
+use Rattle.history.specs.History.{Short, sizesOf}
 use Rattle.history.specs.Pushes.{pushesFrom, pushesOf}
 use Rattle.history.proofs.Segments.{pick-of}
-use Rattle.history.proofs.Rising.{fastack-flies, send-flies, flush-flies}
+use Rattle.history.proofs.Rising.{window-within, fastack-flies, send-flies, flush-flies}
 use Rattle.history.proofs.Stores.{lists-back, store-back, as-it-was, records-back, room-back}
 use Rattle.history.proofs.Fine.{FineSend, FineAcks, FineIn, Fine, fits-send, receive-fits, send-fits, input-fits}
 use Rattle.history.proofs.Walks.{seenMet, Stays, WalksTo, from, walks}
@@ -98,7 +98,7 @@ record Beside (k n : Kcp) : Type 0 where
   probe : ProbeFits (k .probe) → ProbeFits (n .probe)
   acklist : n .acklist ≡ k .acklist
   sender : n .sender ≡ k .sender
-  window : k .congestion .«snd_wnd» < 65536 → n .congestion .«snd_wnd» < 65536
+  window : Short (k .congestion) → Short (n .congestion)
 
 module _ (m : Memory) (f : Fine m) where
   abbrev k : Kcp
@@ -119,9 +119,9 @@ module _ (m : Memory) (f : Fine m) where
   abbrev low : k .receiver .«rcv_nxt» < 2 ^ 32
   low = f .receives .low
 
-  -- the block's numbers beside the receive side that the test for 15 looks at
-  abbrev aside : Kcp → ℕ × ℕ × Probe × AckList × Sender × ℕ
-  aside n = (n .settings .mtu, n .settings .mss, n .probe, n .acklist, n .sender, n .congestion .«snd_wnd»)
+  -- what is kept of the block beside the receive side
+  abbrev aside : Kcp → ℕ × ℕ × Probe × AckList × Sender × Congestion
+  aside n = (n .settings .mtu, n .settings .mss, n .probe, n .acklist, n .sender, n .congestion)
 
   unmoved : {n : Kcp} → aside n ≡ aside k → Beside k n
   unmoved e =
@@ -132,7 +132,7 @@ module _ (m : Memory) (f : Fine m) where
         probe = λ p. subst ProbeFits (sym (ap (λ x. x .2) e)) p;
         acklist = ap (λ x. x .3) e;
         sender = ap (λ x. x .4) e;
-        window = λ w. rw (ap (λ x. x .5) e) w;
+        window = subst Short (sym (ap (λ x. x .5) e));
       }
 
   whole-beside : {n : Kcp} → Beside k n → Good (n .receiver) (m .rcv) → n .receiver .«rcv_nxt» < 2 ^ 32 → Whole m (withBlock m n)
@@ -143,7 +143,7 @@ module _ (m : Memory) (f : Fine m) where
       probe = b .probe (f .probe);
       receives = record { good = g; low = l; sizes = f .receives .sizes };
       sends =
-          subst (λ (s : Sender). FineSend s (n .congestion .«snd_wnd») st) (sym (b .sender))
+          subst (λ (s : Sender). FineSend s (n .congestion) st) (sym (b .sender))
           (record { sound = f .sends .sound; flies = f .sends .flies; slots = f .sends .slots; narrow = b .window (f .sends .narrow) });
       lists = subst (λ (a : AckList). FineAcks a (m .acks) (m .waiting)) (sym (b .acklist)) (f .lists);
     };
@@ -203,7 +203,7 @@ module _ (m : Memory) (f : Fine m) where
           probe = λ p. p;
           acklist = refl;
           sender = refl;
-          window = λ w. pick-of (λ (c : Congestion). c .«snd_wnd» < 65536) (ltb 0 sndwnd) (λ h. small) w;
+          window = λ w. pick-of Short (ltb 0 sndwnd) (λ h. record { snd = small; rmt = w .rmt; cwnd = w .cwnd; ssthresh = w .ssthresh }) w;
         })
 
     window-next : windowsAt slots k sndwnd rcvwnd .block .receiver .«rcv_nxt» < 2 ^ 32
@@ -387,9 +387,9 @@ module _ (m : Memory) (f : Fine m) where
             receives = f .receives;
             sends = record {
               sound = out-sound b st o;
-              flies = flush-flies b st (m .acks) (m .waiting) o (f .sends .flies) (f .sends .narrow);
+              flies = flush-flies b st (m .acks) (m .waiting) o (f .sends .flies) (f .sends .narrow .snd);
               slots = rw (large .marks) (f .sends .slots);
-              narrow = rw (flush-window (k .settings .mss) (k .congestion) _ _ _ _ _) (f .sends .narrow);
+              narrow = flush-window (k .settings .mss) (k .congestion) (f .sends .narrow) _ _ _ _ _ (let h = window-within (k .settings .nocwnd) (k .congestion) in let w = f .sends .narrow .snd in omega arith);
             };
             lists = record { memory = f .lists .memory; few = zero-le; held = zero-le };
           })
@@ -443,7 +443,7 @@ module _ (m : Memory) (f : Fine m) where
             sound = fastack-sound (n .latest) (n .block .sender) (n .snd) o;
             flies = fastack-flies (n .block .sender) (n .snd) o (g .sends .flies) (n .latest);
             slots = rw (large .marks) (g .sends .slots);
-            narrow = rw (input-window (k .settings .mss) (n .block .congestion) (k .sender .«snd_una») (n .block .sender .«snd_una»)) (g .sends .narrow);
+            narrow = input-window (k .settings .mss) (n .block .congestion) (g .sends .narrow) (k .sender .«snd_una») (n .block .sender .«snd_una»);
           };
           lists = g .lists;
         })

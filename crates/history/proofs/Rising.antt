@@ -145,7 +145,7 @@ fastack-risen l s r = go (counts l (s .una) (s .next))
 -- ---- a flush
 
 -- a flush goes by no wider a window than snd_wnd
-window-within : (nocwnd : Bool) (c : Congestion) → windowOf nocwnd c ≤ c .«snd_wnd»
+pub window-within : (nocwnd : Bool) (c : Congestion) → windowOf nocwnd c ≤ c .«snd_wnd»
 unfolding windowOf pick
 window-within true c = omega arith
 window-within false c = omega arith

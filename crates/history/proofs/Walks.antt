@@ -80,9 +80,9 @@ module _ (waiting : List ℕ) (m : Met) (f : Fit waiting m) where
       (λ h. record { settings = record { mtu = f .settings .mtu; mss = f .settings .mss }; probe = f .probe; receives = f .receives; sends = f .sends; lists = f .lists })
       f)
 
-  stays-begun : (h : Header) → Stays waiting m (withBlock m (begun h (m .block) (m .snd)))
+  stays-begun : (h : Header) → h .wnd < 65536 → Stays waiting m (withBlock m (begun h (m .block) (m .snd)))
   unfolding begun
-  stays-begun h =
+  stays-begun h wnd =
       let o = f .sends .sound in
       stays-in m _
       (record {
@@ -93,7 +93,7 @@ module _ (waiting : List ℕ) (m : Met) (f : Fit waiting m) where
           sound = una-sound (h .una) (m .block .sender) (m .snd) o;
           flies = una-flies (m .block .sender) (m .snd) o (f .sends .flies) (h .una);
           slots = f .sends .slots;
-          narrow = f .sends .narrow;
+          narrow = let w = f .sends .narrow in record { snd = w .snd; rmt = wnd; cwnd = w .cwnd; ssthresh = w .ssthresh };
         };
         lists = f .lists;
       })
@@ -210,7 +210,7 @@ module _ (waiting : List ℕ) (s : List ℕ) (short : length s ≤ 1500) (bytes 
     stays-known = stays-adopted waiting m f (h .conv)
 
     stays-ready : Stays waiting m ready
-    stays-ready = stays-both stays-known (stays-begun waiting known (stays-known .fine) h)
+    stays-ready = stays-both stays-known (stays-begun waiting known (stays-known .fine) h (headerAt-fit s at more bytes .wnd))
 
     segment-stays : Stays waiting m (segmentAt s at m .met)
     segment-stays =

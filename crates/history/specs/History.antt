@@ -12,6 +12,7 @@ use Rattle.ring.specs.Counting.{count}
 use Rattle.rcv_ring.specs.declared.RcvRing.{RcvRing}
 use Rattle.snd_ring.specs.Store.{storeOf}
 use Rattle.block.specs.Sizes.{pairs}
+use Rattle.block.specs.declared.congestion.Congestion.{Congestion}
 use Rattle.block.specs.Fresh.{Lent}
 use Rattle.receiving.specs.Rules.{Segment, Ordered, payloads, joined}
 use Rattle.receiving.specs.History.{runFrom, first, none-segment, Sound}
@@ -117,6 +118,13 @@ abbrev pub Rising : Memory → Type 0
 Rising m =
     Ordered (m .block .sender .«snd_una») 0 (distance (m .block .sender .«snd_una») (m .block .sender .«snd_nxt»)) (flyingNumbers (m .block .sender .ring) (storeOf 8 (m .snd)))
 
+-- the numbers of 16 bits beside the receive windows, which are at most 512
+pub record Short (c : Congestion) : Type 0 where
+  pub snd : c .«snd_wnd» < 65536
+  pub rmt : c .«rmt_wnd» < 65536
+  pub cwnd : c .cwnd < 65536
+  pub ssthresh : c .ssthresh < 65536
+
 -- demand 3, of a history that began with the memory `start`
 pub record SoundCalls (start : Memory) (h : History) : Type 0 where
   -- what the rules tell is what is seen in the memory
@@ -141,5 +149,7 @@ pub record SoundCalls (start : Memory) (h : History) : Type 0 where
   pub passed : (c : Call) → passes c (h .now) ≡ true
   pub refused : (l : Lent) (c : Call) → passes c (lentTo (h .now .block) l) ≡ false → (step h (onOther l c) ≡ h) × (leaves c (lentTo (h .now .block) l) ≡ lentTo (h .now .block) l)
   pub rising : Rising (h .now)
+  -- the windows have 16 bits
+  pub short : Short (h .now .block .congestion)
   -- and snd_nxt lies no farther past snd_una than the largest send window
   pub near : distance (h .now .block .sender .«snd_una») (h .now .block .sender .«snd_nxt») ≤ 65535
