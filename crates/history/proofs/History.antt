@@ -125,6 +125,7 @@ module _ (start : Memory) where
       passed = passes-own (h .now) (kept .fine);
       refused = λ l c e. (refused-turn h l c e, bad-leaves c (lentTo (h .now .block) l) e);
       rising = kept .fine .sends .flies .order;
+      own = own (kept .fine);
       short = kept .fine .sends .narrow;
       near = kept .fine .sends .flies .near;
     }

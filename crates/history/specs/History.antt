@@ -11,6 +11,7 @@ use Rattle.wire.specs.LittleEndian.{Octets}
 use Rattle.ring.specs.Counting.{count}
 use Rattle.rcv_ring.specs.declared.RcvRing.{RcvRing}
 use Rattle.snd_ring.specs.Store.{storeOf}
+use Rattle.block.specs.WellFormed.{OwnNumbers}
 use Rattle.block.specs.Sizes.{pairs}
 use Rattle.block.specs.declared.congestion.Congestion.{Congestion}
 use Rattle.block.specs.Fresh.{Lent}
@@ -149,7 +150,8 @@ pub record SoundCalls (start : Memory) (h : History) : Type 0 where
   pub passed : (c : Call) → passes c (h .now) ≡ true
   pub refused : (l : Lent) (c : Call) → passes c (lentTo (h .now .block) l) ≡ false → (step h (onOther l c) ≡ h) × (leaves c (lentTo (h .now .block) l) ≡ lentTo (h .now .block) l)
   pub rising : Rising (h .now)
-  -- the windows have 16 bits
+  -- the block's own numbers are well formed, and its windows have 16 bits
+  pub own : OwnNumbers (h .now .block)
   pub short : Short (h .now .block .congestion)
   -- and snd_nxt lies no farther past snd_una than the largest send window
   pub near : distance (h .now .block .sender .«snd_una») (h .now .block .sender .«snd_nxt») ≤ 65535
