@@ -1,16 +1,21 @@
 -- What the steps of the code find and leave, in the words of `specs/Memory.antt`. Assumes nothing.
-use Prim.Native.Nat.{ℕ, _+_, _-_, _/_, _≤_, _<_}
+use Prim.Native.Nat.{ℕ, zero, suc, _+_, _-_, _/_, _≤_, _<_, min}
 use native.Mathlib.Omega.{arith}
 use mathlib.Core.Path.{_≡_, refl, sym, ap, _∙_}
+use mathlib.Core.Bool.{Bool, true, _&&_}
 use mathlib.Core.List.{List, [], _∷_, _++_}
 use lib.ListN.{length, getD}
-use Rattle.serial.specs.Wrap.{add32}
+use lib.Dec.{ltb}
+use borrow.Author.Tests.{lt-ltb}
+use Rattle.serial.specs.Branch.{pick}
+use Rattle.serial.specs.Wrap.{add32, sub32}
 use Rattle.ring.specs.Lists.{lists}
 use Rattle.ring.specs.Places.{place}
 use Rattle.ring.specs.Records.{numberAt}
 use Rattle.ring.proofs.Counting.{count-le}
 use Rattle.snd_ring.specs.Store.{Store, storeOf}
 use Rattle.snd_ring.specs.Steps.{ring}
+use Rattle.snd_ring.proofs.Marks.{by-live}
 use Rattle.snd_ring.proofs.Splits.{marks-length, mark-read}
 use Rattle.block.specs.declared.sender.Sender.{Sender}
 use Rattle.transmit.specs.Memory.{resendts, side}
@@ -78,6 +83,17 @@ module _ (current : ℕ) where
   tm-append [] y tm = refl
   tm-append (n ∷ x) y tm = tm-append x y (nearest current n tm)
 
+  -- neither due nor sooner
+  pub later-stays : (resendts tm : ℕ) {wait : ℕ} → wait ≡ sub32 resendts current → tm ≤ wait → {t : Bool} → t ≡ ltb wait 2147483648 → t ≡ true → nearest current resendts tm ≡ tm
+  unfolding nearest pick
+  later-stays resendts tm {wait} e h f g =
+      let l = sym f ∙ g in
+      rw (← e, l) (of wait tm h)
+    where
+      of : (wait tm : ℕ) → tm ≤ wait → pick (ltb 0 wait && true) (min wait tm) 0 ≡ tm
+      of zero tm h = omega arith
+      of (suc n) tm h = rw (lt-ltb 0 (suc n) (omega arith)) (omega arith)
+
   module _ (a : List ℕ) {slots : ℕ} (e : slots ≡ length a / 9) (q : ℕ) (h : q < slots) (tm : ℕ) where
     pub tm-gap : getD a q 0 ≡ 0 → (room : List ℕ) → tm ≡ tmPacket current (resendtsAt (storeOf 8 (lists a room)) q) tm
     unfolding tmPacket
@@ -87,6 +103,11 @@ module _ (current : ℕ) where
         → (room : List ℕ) → r ≡ tmPacket current (resendtsAt (storeOf 8 (lists a room)) q) tm
     unfolding tmPacket recordIn
     tm-live z f g room = rw (resendts-live (storeOf 8 (lists a room)) q (λ y. z (mark-at a e q h room ∙ y)), g, f, rows-room a [] room)
+
+    -- either way it stays
+    pub tm-later : {x : ℕ} → x ≡ numberAt 8 (storeOf 8 (lists a []) .rows) q resendts → nearest current x tm ≡ tm
+        → (room : List ℕ) → tm ≡ tmPacket current (resendtsAt (storeOf 8 (lists a room)) q) tm
+    tm-later f g room = by-live (getD a q 0) (λ z _. tm-gap z room) (λ z _. tm-live z f (sym g) room)
 
   module _ (m : Store) where
     pub tm-next : (q to tm : ℕ) → q < to → {x : ℕ} → x ≡ tmPacket current (resendtsAt m q) tm

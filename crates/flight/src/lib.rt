@@ -1,13 +1,14 @@
 // What a flush does to the send ring in lent memory.
 ghost use mathlib.Core.Path.{_≡_};
+ghost use mathlib.Core.Bool.{true};
 ghost use mathlib.Core.List.{List};
-ghost use Prim.Native.Nat.{ℕ, _+_, _/_, _≤_, _<_, _^_, _-_};
+ghost use Prim.Native.Nat.{ℕ, _+_, _/_, _≤_, _<_, _-_};
 ghost use lib.ListN.{length};
 ghost use Rattle.ring.specs.Lists.{lists};
 ghost use Rattle.snd_ring.specs.Store.{storeOf};
 ghost use Rattle.transmit.specs.Memory.{side};
 ghost use Rattle.transmit.specs.Fits.{Lies};
-ghost use Rattle.flushing.specs.Clocks.{tmPacket};
+ghost use Rattle.flushing.specs.Clocks.{nearest, tmPacket};
 ghost use Rattle.flushing.specs.Due.{numbered};
 ghost use Rattle.flight.specs.Places.{placesOf, runOf, Covers};
 ghost use Rattle.flight.specs.Memory.{recordIn, renewedAt, flightPlaces, launchedOver, launchedAt, resendtsAt, resendtsOver};
@@ -194,20 +195,31 @@ pub fn launch(
     }
 }
 
-// The wait for the segments, with that at place q; a gap is passed over.
+// Whether a segment that is to be resent then is neither due nor sooner than tm, so that the wait stays.
+fn later(current: u32, resendts: u32, tm: u32) -> bool
+    ensures { λ r. ⌜ (r ≡ true → nearest current resendts tm ≡ tm) ⌝ }
+{
+    let wait = serial::sub(resendts, current);
+    if wait < tm {
+        return false;
+    }
+    wait < 0x8000_0000
+}
+
+// The wait for the segments, with that at place q; a gap is passed over. Few shorten it, and their marks are looked at then.
 fn tm_at(records: &[u32], slots: usize, q: usize, current: u32, tm: u32) -> u32
     requires { ⌜ slots ≡ length (now records) / 9 ⌝ }
     requires { ⌜ q < slots ⌝ }
     ensures { λ r. ⌜ ((room : List ℕ) → r ≡ tmPacket current (resendtsAt (storeOf 8 (lists (now (records .entry)) room)) q) tm) ⌝ }
 {
+    let resendts = snd_ring::number_at(records, slots, q, RESENDTS);
+    if later(current, resendts, tm) {
+        return tm;
+    }
     if records[q] == 0 {
         return tm;
     }
-    nearest(
-        current,
-        snd_ring::number_at(records, slots, q, RESENDTS),
-        tm,
-    )
+    nearest(current, resendts, tm)
 }
 
 // The same with those at the places from `from` up to `to`.
@@ -226,15 +238,15 @@ fn tm_run(records: &[u32], slots: usize, from: usize, to: usize, current: u32, t
     least
 }
 
-// How long check waits for the segments in flight.
-pub fn tm_packet(ring: SndRing, records: &[u32], current: u32) -> u32
+// How long check waits for the segments in flight, and at most tm.
+pub fn tm_packet(ring: SndRing, records: &[u32], current: u32, tm: u32) -> u32
     requires { ⌜ length (now records) / 9 ≤ 65535 ⌝ }
     requires { ⌜ ring .start < length (now records) / 9 ⌝ }
     requires { ⌜ ring .reach ≤ length (now records) / 9 ⌝ }
-    ensures { λ r. ⌜ ((room : List ℕ) → r ≡ tmPacket current (resendtsOver (flightPlaces ring (storeOf 8 (lists (now (records .entry)) room))) (storeOf 8 (lists (now (records .entry)) room))) (2 ^ 32 - 1)) ⌝ }
+    ensures { λ r. ⌜ ((room : List ℕ) → r ≡ tmPacket current (resendtsOver (flightPlaces ring (storeOf 8 (lists (now (records .entry)) room))) (storeOf 8 (lists (now (records .entry)) room))) tm) ⌝ }
 {
     let slots = snd_ring::slots_in(records.len());
     let runs = runs_of(slots, ring.start as usize, 0, ring.reach as usize);
-    let tm = tm_run(records, slots, runs.from, runs.to, current, u32::MAX);
-    tm_run(records, slots, 0, runs.rest, current, tm)
+    let least = tm_run(records, slots, runs.from, runs.to, current, tm);
+    tm_run(records, slots, 0, runs.rest, current, least)
 }

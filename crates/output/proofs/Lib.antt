@@ -3,5 +3,6 @@ mod Found
 mod Sizes
 mod Rears
 mod Whole
+mod Still
 mod Flushes
-mod Updates
+pub mod Updates
