@@ -3,7 +3,7 @@ ghost use mathlib.Core.Path.{_≡_};
 ghost use Rattle.ring.specs.Lists.{lists};
 ghost use Rattle.snd_ring.specs.Store.{storeOf};
 ghost use Rattle.packing.specs.FlushAck.{writing};
-ghost use Rattle.kcp_flush.specs.Calls.{flushAckOf, flushOf, updateOf, numberOfWait};
+ghost use Rattle.kcp_flush.specs.Calls.{flushAckOf, flushOf, updateOf, turnOf, numberOfWait};
 ghost use Rattle.host_flush.specs.Words.{countIn, waitIn, WordsOut, WordsFlushed, WordsChecked};
 use block::refusal::Answer;
 use kcp_flush::Wait;
@@ -40,6 +40,43 @@ pub fn flush_ack(
     answer.number()
 }
 
+// An update to that time, or a flush where `sets` is false; one function for both, so that the block is read out of the words there and never laid out
+// in memory. The words that it changes are written alone.
+fn turn(
+    words: &mut [u32],
+    sets: bool,
+    current: u32,
+    records: &mut [u32],
+    room: &[u8],
+    acks: &[u32],
+    waiting: &[u8],
+    out: &mut [u8],
+    lengths: &mut [u16],
+    datagrams: &mut usize,
+) -> u32
+    ensures { λ r. ⌜ WordsFlushed (λ k. turnOf k (lists (now (records .entry)) (now (room .entry))) (now (acks .entry)) (writing (now (waiting .entry)) (now (out .entry)) (now (lengths .entry))) sets current) (lists (now (records .entry)) (now (room .entry))) (writing (now (waiting .entry)) (now (out .entry)) (now (lengths .entry))) (now (words .entry)) (now (datagrams .entry))
+        (record { number = r; datagrams = now (datagrams .exit); words = now (words .exit); written = writing (now (waiting .entry)) (now (out .exit)) (now (lengths .exit)) }) (storeOf 8 (lists (now (records .exit)) (now (room .entry)))) ⌝ }
+{
+    if !words::is_block(words) {
+        return 15;
+    }
+    let left = kcp_flush::turn(
+        words::block(words),
+        sets,
+        current,
+        records,
+        room,
+        acks,
+        waiting,
+        out,
+        lengths,
+    );
+    words::write(left.block, words);
+    let answer = left.answer;
+    *datagrams = count_in(*datagrams, answer, left.datagrams);
+    answer.number()
+}
+
 // Puts all out that waits or is due, and how many datagrams that was into `datagrams`. 0, or 9, 13 or 15, which leave all.
 pub fn flush(
     words: &mut [u32],
@@ -54,22 +91,18 @@ pub fn flush(
     ensures { λ r. ⌜ WordsFlushed (λ k. flushOf k (lists (now (records .entry)) (now (room .entry))) (now (acks .entry)) (writing (now (waiting .entry)) (now (out .entry)) (now (lengths .entry)))) (lists (now (records .entry)) (now (room .entry))) (writing (now (waiting .entry)) (now (out .entry)) (now (lengths .entry))) (now (words .entry)) (now (datagrams .entry))
         (record { number = r; datagrams = now (datagrams .exit); words = now (words .exit); written = writing (now (waiting .entry)) (now (out .exit)) (now (lengths .exit)) }) (storeOf 8 (lists (now (records .exit)) (now (room .entry)))) ⌝ }
 {
-    if !words::is_block(words) {
-        return 15;
-    }
-    let left = kcp_flush::flush(
-        words::block(words),
+    turn(
+        words,
+        false,
+        0,
         records,
         room,
         acks,
         waiting,
         out,
         lengths,
-    );
-    words::write(left.block, words);
-    let answer = left.answer;
-    *datagrams = count_in(*datagrams, answer, left.datagrams);
-    answer.number()
+        datagrams,
+    )
 }
 
 // Sets the clock, and flushes where a flush is due. 0, or 13 or 15, which leave all, the clock too.
@@ -87,11 +120,9 @@ pub fn update(
     ensures { λ r. ⌜ WordsFlushed (λ k. updateOf k (lists (now (records .entry)) (now (room .entry))) (now (acks .entry)) (writing (now (waiting .entry)) (now (out .entry)) (now (lengths .entry))) current) (lists (now (records .entry)) (now (room .entry))) (writing (now (waiting .entry)) (now (out .entry)) (now (lengths .entry))) (now (words .entry)) (now (datagrams .entry))
         (record { number = r; datagrams = now (datagrams .exit); words = now (words .exit); written = writing (now (waiting .entry)) (now (out .exit)) (now (lengths .exit)) }) (storeOf 8 (lists (now (records .exit)) (now (room .entry)))) ⌝ }
 {
-    if !words::is_block(words) {
-        return 15;
-    }
-    let left = kcp_flush::update(
-        words::block(words),
+    turn(
+        words,
+        true,
         current,
         records,
         room,
@@ -99,11 +130,8 @@ pub fn update(
         waiting,
         out,
         lengths,
-    );
-    words::write(left.block, words);
-    let answer = left.answer;
-    *datagrams = count_in(*datagrams, answer, left.datagrams);
-    answer.number()
+        datagrams,
+    )
 }
 
 // The number of a check's refusal, or 0.
