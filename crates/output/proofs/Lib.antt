@@ -6,3 +6,4 @@ mod Whole
 mod Still
 mod Flushes
 pub mod Updates
+pub mod Keeps

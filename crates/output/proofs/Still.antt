@@ -29,28 +29,28 @@ module _ (b : Kcp) (m : Store) (acks waiting : List ℕ) (o : Sound 8 (b .sender
   abbrev fresh : List ℕ
   fresh = freshSizes (waitingPlaces (b .sender .ring) m (planOf b .leavers)) m
 
-  parts : (sumOf flight ≡ 0) × (sumOf fresh ≡ 0)
+  pub parts : (sumOf (frontSizes (b .acklist .acks) (planOf b .probe .bits)) ≡ 0) × (sumOf flight ≡ 0) × (sumOf fresh ≡ 0)
   unfolding sizesAt
   parts =
       let s = sum-append (frontSizes (b .acklist .acks) (planOf b .probe .bits)) (flight ++ fresh) in
       let t = sum-append flight fresh in
-      (omega arith, omega arith)
+      (omega arith, omega arith, omega arith)
 
-  moved : movedAt b m ≡ side (b .sender) m
+  pub moved : movedAt b m ≡ side (b .sender) m
   moved =
       ap (λ (n : ℕ). launchedAt (b .settings .conv) (b .clock .current) (b .estimator .rto) n (b .sender) m)
-      (none-fresh (length (m .marks)) (b .sender .ring .start) (b .sender .ring .reach) (planOf b .leavers) m (parts .1))
+      (none-fresh (length (m .marks)) (b .sender .ring .start) (b .sender .ring .reach) (planOf b .leavers) m (parts .2))
       ∙ launched-stays (b .settings .conv) (b .clock .current) (b .estimator .rto) (b .sender) m next
 
   stays : flownStore b m ≡ m
   stays =
       ap (λ (x : Side). flownOver (planOf b .pace) (flightPlaces (x .sender .ring) (x .store)) (x .store)) moved
-      ∙ flown-stays (planOf b .pace) (flightPlaces (b .sender .ring) m) m (o .shaped .sized) (flight-below (b .sender) m o) (parts .0)
+      ∙ flown-stays (planOf b .pace) (flightPlaces (b .sender .ring) m) m (o .shaped .sized) (flight-below (b .sender) m o) (parts .1)
 
-  counted : tallyAt b m ≡ uncounted b
+  pub counted : tallyAt b m ≡ uncounted b
   counted =
       ap (λ (x : Side). tallyOver (b .settings .«dead_link») (planOf b .pace) (flightPlaces (x .sender .ring) (x .store)) (x .store) (uncounted b)) moved
-      ∙ tally-stays (planOf b .pace) (b .settings .«dead_link») (flightPlaces (b .sender .ring) m) m (uncounted b) (o .shaped .sized) (flight-below (b .sender) m o) (parts .0)
+      ∙ tally-stays (planOf b .pace) (b .settings .«dead_link») (flightPlaces (b .sender .ring) m) m (uncounted b) (o .shaped .sized) (flight-below (b .sender) m o) (parts .1)
 
   bytes : take (b .acklist .waiting) waiting ++ flat (piecesAt b m acks) ≡ []
   bytes =
