@@ -1,10 +1,15 @@
 // flush_ack, flush, update and check of a block that a host keeps as words.
 ghost use mathlib.Core.Path.{_≡_};
+ghost use lib.Dec.{eqb};
+ghost use lib.ListN.{length};
+ghost use Rattle.serial.specs.Branch.{pick};
+ghost use Rattle.words.specs.Words.{withTurnWords, withSentWords};
 ghost use Rattle.ring.specs.Lists.{lists};
 ghost use Rattle.snd_ring.specs.Store.{storeOf};
 ghost use Rattle.packing.specs.FlushAck.{writing};
 ghost use Rattle.kcp_flush.specs.Calls.{flushAckOf, flushOf, updateOf, turnOf, numberOfWait};
 ghost use Rattle.host_flush.specs.Words.{countIn, waitIn, WordsOut, WordsFlushed, WordsChecked};
+use block::Kcp;
 use block::refusal::Answer;
 use kcp_flush::Wait;
 
@@ -40,8 +45,20 @@ pub fn flush_ack(
     answer.number()
 }
 
+// Writes the block that a flush or an update leaves: the words that it can have changed.
+fn put_left(block: Kcp, datagrams: usize, words: &mut [u32])
+    requires { ⌜ length (now words) ≡ 35 ⌝ }
+    ensures { λ _. ⌜ now (words .exit) ≡ pick (eqb datagrams 0) (withTurnWords block (now (words .entry))) (withSentWords block (now (words .entry))) ⌝ }
+{
+    if datagrams == 0 {
+        words::put_turned(block, words);
+        return;
+    }
+    words::put_sent(block, words);
+}
+
 // An update to that time, or a flush where `sets` is false; one function for both, so that the block is read out of the words there and never laid out
-// in memory. The words that it changes are written alone.
+// in memory.
 fn turn(
     words: &mut [u32],
     sets: bool,
@@ -71,7 +88,7 @@ fn turn(
         out,
         lengths,
     );
-    words::write(left.block, words);
+    put_left(left.block, left.datagrams, words);
     let answer = left.answer;
     *datagrams = count_in(*datagrams, answer, left.datagrams);
     answer.number()

@@ -1,6 +1,6 @@
 -- What flush_ack, flush, update and check promise, at each of their tests; that their tests give what the functions below them ask; and that each
 -- contract leaves one outcome only. Assumes nothing.
-use Prim.Native.Nat.{ℕ, _*_, _≤_}
+use Prim.Native.Nat.{ℕ, _*_, _≤_, _<_, _^_}
 use native.Mathlib.Omega.{arith}
 use mathlib.Core.Path.{_≡_, refl, sym, ap, _∙_}
 use mathlib.Core.Bool.{Bool, true, false, not, _&&_}
@@ -26,6 +26,7 @@ use Rattle.flushing.specs.Rules.{flushedAck, flushed}
 use Rattle.packing.specs.FlushAck.{Writing}
 use Rattle.output.specs.Memory.{outgoing, Out, unsent, FlushOut, flushAckAt, flushAt, updateAt, turnAt, checkAt}
 use Rattle.output.proofs.Updates.{update-turn, flush-turn}
+use Rattle.output.proofs.Keeps.{Keeps, either, keeps-all, turn-keeps}
 use Rattle.kcp_flush.specs.declared.Wait.{Wait}
 use Rattle.kcp_flush.specs.declared.Wait.the-variants.{Is, Refused}
 use Rattle.kcp_flush.specs.Calls.{ackFits, flushFits, flushAckOf, ackExceeds, FlushesAck, unflushed, flushExceeds, flushOf, Flushes, updateOf, Updates, turnOf, tickOf, numberOfWait, valuesOfWait, checkOf, Checks}
@@ -183,6 +184,36 @@ module _ (k : Kcp) (snd : Lists) (acks : List ℕ) (w : Writing) where
   unfolding pick
   update-by current e = update-promise current e
 
+  asks : well ≡ true → OwnNumbers k × ((2 * k .acklist .acks ≤ length acks) × ((length (w .waiting) ≡ 1500) × Sound 8 (k .sender .ring) (storeOf 8 snd)))
+  asks h =
+      let f = flush-exactly k acks (w .waiting) snd .holds h in
+      let p = paired (f .1 .1 .0) (f .1 .1 .1) in
+      (f .0, (p .0, (p .1, sound-of {k = k} {l = snd} (record { own = f .0; lent = f .1 .0 }))))
+
+  -- what a turn leaves as it was
+  module _ (next : k .sender .«snd_nxt» < 2 ^ 32) where
+    by-tick : (t : Tick) → t .clock .interval ≡ k .clock .interval → well ≡ true → Keeps k (turnAt t k (storeOf 8 snd) acks w)
+    by-tick t e h =
+        let a = asks h in
+        let full = a .1 .1 .0 in
+        let most = a .0 .acklist .waiting in
+        turn-keeps t k (storeOf 8 snd) acks w e (a .1 .1 .1) (omega arith) next
+
+    update-kept : (current : ℕ) → Keeps k (updateOf k snd acks w current)
+    unfolding updateOf ticked
+    update-kept current =
+        either (Keeps k) well (λ h. rw (update-turn k (storeOf 8 snd) acks w current) (by-tick (ticked (k .clock) current) refl h)) (λ h. keeps-all k w BadPool (storeOf 8 snd))
+
+    flush-kept : Keeps k (flushOf k snd acks w)
+    unfolding flushOf
+    flush-kept =
+        either (Keeps k) well
+        (λ h. either (Keeps k) (k .clock .updated) (λ u. rw (flush-turn k (storeOf 8 snd) acks w) (by-tick (record { clock = k .clock; flushes = true }) refl h)) (λ u. keeps-all k w NeedUpdate (storeOf 8 snd)))
+        (λ h. keeps-all k w BadPool (storeOf 8 snd))
+
+    pub turn-kept : (sets : Bool) (current : ℕ) → Keeps k (turnOf k snd acks w sets current)
+    turn-kept sets current = either (Keeps k) sets (λ e. update-kept current) (λ e. flush-kept)
+
   -- t tells whether block and memory fit
   module _ (sets : Bool) (current : ℕ) {t : Bool} (tested : t ≡ well) where
     pub turn-bad : not t ≡ true → unflushed k snd w BadPool ≡ turnOf k snd acks w sets current
@@ -196,10 +227,7 @@ module _ (k : Kcp) (snd : Lists) (acks : List ℕ) (w : Writing) where
       all-well = sym tested ∙ not-false t passes
 
       pub turn-asks : OwnNumbers k × ((2 * k .acklist .acks ≤ length acks) × ((length (w .waiting) ≡ 1500) × Sound 8 (k .sender .ring) (storeOf 8 snd)))
-      turn-asks =
-          let f = flush-exactly k acks (w .waiting) snd .holds all-well in
-          let p = paired (f .1 .1 .0) (f .1 .1 .1) in
-          (f .0, (p .0, (p .1, sound-of {k = k} {l = snd} (record { own = f .0; lent = f .1 .0 }))))
+      turn-asks = asks all-well
 
       pub turn-early : {e : Bool} → e ≡ (not sets && not (k .clock .updated)) → e ≡ true → unflushed k snd w NeedUpdate ≡ turnOf k snd acks w sets current
       unfolding flushOf pick

@@ -1,9 +1,10 @@
 -- `host_flush::turn` meets its contract: the law of words that are no block, and of those that are. Assumes nothing.
+use native.Mathlib.Omega.{arith}
 use Rattle.ring.specs.Lists.{lists}
 use Rattle.packing.specs.FlushAck.{writing}
 use Rattle.words.proofs.Tests.{held-length}
 use Rattle.kcp_flush.specs.Calls.{turnOf}
-use Rattle.host_flush.proofs.Laws.{flush-none, flush-done}
+use Rattle.host_flush.proofs.Laws.{flush-none, turn-done}
 use borrow.Author.Needs.{needs}
 use Rattle.host_flush.proofs.turn.Statement.{statement}
 use Rattle.host_flush.proofs.turn.Tie as tie
@@ -27,8 +28,8 @@ block-requires c κs = held-length _ (c .before .before .is-block .ensures) (c .
 turn-requires : tie.Need-turn-requires
 turn-requires c κs = search needs
 
-write-requires : tie.Need-write-requires
-write-requires c κs = held-length _ (c .before .before .before .before .before .before .before .before .before .before .before .before .before .before .is-block .ensures) (c .before .before .before .before .before .before .before .before .before .before .before .before .before .if1 .left)
+put-left-requires : tie.Need-put-left-requires
+put-left-requires c κs = held-length _ (c .before .before .before .before .before .before .before .before .before .before .before .before .before .before .is-block .ensures) (c .before .before .before .before .before .before .before .before .before .before .before .before .before .if1 .left)
 
 count-in-requires : tie.Need-count-in-requires
 count-in-requires c κs = search needs
@@ -53,7 +54,7 @@ returns-2 c =
     let a = c .before .before .before .before .before .before .before .before .before .before .before .before .before .before .before .before .before .before .before .before .before .before .before .before .before .before .before .before .before .args in
     let l = lists (a .records .now) (a .room .now) in
     let w = writing (a .waiting .now) (a .out .now) (a .lengths .now) in
-    flush-done _ (c .before .before .before .before .before .before .before .before .before .before .before .before .before .before .before .before .before .before .before .before .is-block .ensures) (c .before .before .before .before .before .before .before .before .before .before .before .before .before .before .before .before .before .before .before .if1 .left) (c .before .before .before .before .before .before .before .before .before .before .before .before .before .before .before .before .before .block .ensures) (λ k. turnOf k l (a .acks .now) w (a .sets) (a .current)) l w (a .datagrams .now) (c .before .before .before .before .before .before .before .before .before .before .before .before .before .turn .ensures) (c .number .ensures) (c .before .count-in .ensures) (c .before .before .before .before .before .write .ensures)
+    turn-done _ (c .before .before .before .before .before .before .before .before .before .before .before .before .before .before .before .before .before .before .before .before .is-block .ensures) (c .before .before .before .before .before .before .before .before .before .before .before .before .before .before .before .before .before .before .before .if1 .left) (c .before .before .before .before .before .before .before .before .before .before .before .before .before .before .before .before .before .block .ensures) l (a .acks .now) w (a .sets) (a .current) (a .datagrams .now) (λ i. omega (arith, c .before .before .before .before .before .before .before .before .before .before .before .before .before .before .before .before .before .before .before .before .before .before .before .before .before .before .before .before .slice-known .given i)) _ (c .before .before .before .before .before .before .before .before .before .before .before .before .before .turn .ensures) (c .number .ensures) (c .before .count-in .ensures) (c .before .before .before .before .before .put-left .ensures)
 
 pub turn-spec : {M : Type 1} → statement M
 turn-spec =
@@ -64,7 +65,7 @@ turn-spec =
     returns
     block-requires
     turn-requires
-    write-requires
+    put-left-requires
     count-in-requires
     number-requires
     same-length-2
