@@ -1,15 +1,18 @@
 -- What a host is told of flush_ack, flush, update and check, by whether its words are a block, and that it is told one thing only. Assumes nothing.
 use Prim.Native.Nat.{ℕ, _<_}
-use mathlib.Core.Path.{_≡_, sym, ap, _∙_, subst}
+use mathlib.Core.Path.{_≡_, refl, sym, ap, _∙_, subst}
 use mathlib.Core.Bool.{Bool, true, false, not}
 use mathlib.Core.List.{List}
 use lib.Dec.{eqb}
+use lib.ListN.{length}
 use borrow.Author.Tests.{not-true, not-false, eqb-true}
 use Rattle.serial.specs.Branch.{pick, pick-true, pick-false}
 use Rattle.ring.specs.Lists.{Lists}
 use Rattle.snd_ring.specs.Store.{Store, storeOf}
 use Rattle.block.specs.declared.Kcp.{Kcp}
+use Rattle.block.specs.declared.refusal.Refusal.the-variants.{BadPool}
 use Rattle.block.specs.Refusals.{numberOfAnswer}
+use Rattle.block.specs.Sizes.{ackSizes}
 use Rattle.words.specs.Words.{at, wordsOf, blockOf, isBlock, withFlags, withProbeWords, withCwndWords, withClockWords, withTurnWords, withCountWords, withSndWords, withSentWords}
 use Rattle.words.proofs.Back.{words-back}
 use Rattle.host.specs.Words.{setWords}
@@ -17,8 +20,8 @@ use Rattle.packing.specs.FlushAck.{Writing}
 use Rattle.output.specs.Memory.{Out, FlushOut}
 use Rattle.kcp_flush.specs.declared.Wait.{Wait}
 use Rattle.output.proofs.Keeps.{Kept, Same, Keeps, either}
-use Rattle.kcp_flush.specs.Calls.{turnOf, numberOfWait, checkOf}
-use Rattle.kcp_flush.proofs.Calls.{turn-kept}
+use Rattle.kcp_flush.specs.Calls.{unflushed, turnOf, numberOfWait, checkOf}
+use Rattle.kcp_flush.proofs.Calls.{turn-unsized, turn-kept}
 use Rattle.host_flush.specs.Words.{countIn, Left, WordsOut, WordsFlushed, waitIn, WordsChecked}
 
 -- ---- the words that are written
@@ -39,6 +42,29 @@ left-words k o e =
     (λ z. sent-words k (o .out .block) (e .0))
 
 -- ---- what is told
+
+-- the sizes of the ack memory are none: 15, whether the words are a block or not
+module _ (snd : Lists) (acks : List ℕ) (w : Writing) (sets : Bool) (current : ℕ) {t : Bool} (e : t ≡ ackSizes (length acks) (length (w .waiting))) (h : not t ≡ true) where
+  abbrev call : Kcp → FlushOut
+  call k = turnOf k snd acks w sets current
+
+  bad : (k : Kcp) → call k ≡ unflushed k snd w BadPool
+  bad k = sym (turn-unsized k snd acks w sets current (sym e ∙ not-true t h))
+
+  pub flush-unsized : (l : List ℕ) (n : ℕ) → ((i : ℕ) → at l i < 4294967296) → WordsFlushed call snd w l n (record { number = 15; datagrams = n; words = l; written = w }) (storeOf 8 snd)
+  unfolding setWords
+  flush-unsized l n range =
+      let o = bad (blockOf l) in
+      let back : (z : isBlock l ≡ true) → l ≡ wordsOf (call (blockOf l) .out .block) = λ z. sym (words-back l z range) ∙ ap (λ (x : FlushOut). wordsOf (x .out .block)) (sym o) in
+      record {
+        out = record {
+          refusal = either (λ (x : ℕ). 15 ≡ x) (isBlock l) (λ z. ap (λ (x : FlushOut). numberOfAnswer (x .out .answer)) (sym o)) (λ z. refl);
+          count = either (λ (x : ℕ). n ≡ x) (isBlock l) (λ z. ap (λ (x : FlushOut). countIn n (x .out .answer) (x .out .datagrams)) (sym o)) (λ z. refl);
+          words = either (λ (x : List ℕ). l ≡ x) (isBlock l) back (λ z. refl);
+          bytes = either (λ (x : Writing). w ≡ x) (isBlock l) (λ z. ap (λ (x : FlushOut). x .out .written) (sym o)) (λ z. refl);
+        };
+        sends = either (λ (x : Store). storeOf 8 snd ≡ x) (isBlock l) (λ z. ap (λ (x : FlushOut). x .store) (sym o)) (λ z. refl);
+      }
 
 -- t tells whether the words l are a block
 module _ (l : List ℕ) {t : Bool} (e : t ≡ isBlock l) where

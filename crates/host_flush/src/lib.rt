@@ -11,6 +11,7 @@ ghost use Rattle.kcp_flush.specs.Calls.{flushAckOf, flushOf, updateOf, turnOf, 
 ghost use Rattle.host_flush.specs.Words.{countIn, waitIn, WordsOut, WordsFlushed, WordsChecked};
 use block::Kcp;
 use block::refusal::Answer;
+use block::sizes::ack_sizes;
 use kcp_flush::Wait;
 
 // The datagrams of a call that is done, or n where it is refused.
@@ -58,7 +59,8 @@ fn put_left(block: Kcp, datagrams: usize, words: &mut [u32])
 }
 
 // An update to that time, or a flush where `sets` is false; one function for both, so that the block is read out of the words there and never laid out
-// in memory.
+// in memory. Its callers test the sizes of the ack memory before, while they hold them: what they hand on unseen is copied two numbers at a time, which
+// waits for their own caller's writes.
 fn turn(
     words: &mut [u32],
     sets: bool,
@@ -108,6 +110,9 @@ pub fn flush(
     ensures { λ r. ⌜ WordsFlushed (λ k. flushOf k (lists (now (records .entry)) (now (room .entry))) (now (acks .entry)) (writing (now (waiting .entry)) (now (out .entry)) (now (lengths .entry)))) (lists (now (records .entry)) (now (room .entry))) (writing (now (waiting .entry)) (now (out .entry)) (now (lengths .entry))) (now (words .entry)) (now (datagrams .entry))
         (record { number = r; datagrams = now (datagrams .exit); words = now (words .exit); written = writing (now (waiting .entry)) (now (out .exit)) (now (lengths .exit)) }) (storeOf 8 (lists (now (records .exit)) (now (room .entry)))) ⌝ }
 {
+    if !ack_sizes(acks.len(), waiting.len()) {
+        return 15;
+    }
     turn(
         words,
         false,
@@ -137,6 +142,9 @@ pub fn update(
     ensures { λ r. ⌜ WordsFlushed (λ k. updateOf k (lists (now (records .entry)) (now (room .entry))) (now (acks .entry)) (writing (now (waiting .entry)) (now (out .entry)) (now (lengths .entry))) current) (lists (now (records .entry)) (now (room .entry))) (writing (now (waiting .entry)) (now (out .entry)) (now (lengths .entry))) (now (words .entry)) (now (datagrams .entry))
         (record { number = r; datagrams = now (datagrams .exit); words = now (words .exit); written = writing (now (waiting .entry)) (now (out .exit)) (now (lengths .exit)) }) (storeOf 8 (lists (now (records .exit)) (now (room .entry)))) ⌝ }
 {
+    if !ack_sizes(acks.len(), waiting.len()) {
+        return 15;
+    }
     turn(
         words,
         true,

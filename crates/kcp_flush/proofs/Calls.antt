@@ -14,7 +14,7 @@ use Rattle.block.specs.declared.Kcp.{Kcp}
 use Rattle.block.specs.declared.refusal.Refusal.the-variants.{NeedUpdate, BadPool}
 use Rattle.block.specs.Refusals.{numberOfAnswer, valuesOfAnswer}
 use Rattle.block.specs.Parts.{withClock}
-use Rattle.block.specs.Sizes.{AckSizes, pairs}
+use Rattle.block.specs.Sizes.{AckSizes, ackSizes, pairs}
 use Rattle.block.specs.WellFormed.{ownNumbers, OwnNumbers, ackLent}
 use Rattle.block.proofs.Exact.{Exactly, exactly-both, own-numbers, acks-exactly}
 use Rattle.block.proofs.Together.{goes, stops}
@@ -78,6 +78,10 @@ module _ (k : Kcp) (acks waiting : List ℕ) {t : Bool} (own : t ≡ ownNumbers 
 together : (a b c : Bool) → (a && (b && c)) ≡ ((a && b) && c)
 together true b c = refl
 together false b c = refl
+
+never : (a : Bool) → (a && false) ≡ false
+never true = refl
+never false = refl
 
 -- u tells whether they and the send memory fit
 module _ (k : Kcp) (acks waiting : List ℕ) (snd : Lists) {t u : Bool} (own : t ≡ ownNumbers k) (sent : u ≡ (t && sendLent (k .sender) snd)) where
@@ -214,13 +218,21 @@ module _ (k : Kcp) (snd : Lists) (acks : List ℕ) (w : Writing) where
     pub turn-kept : (sets : Bool) (current : ℕ) → Keeps k (turnOf k snd acks w sets current)
     turn-kept sets current = either (Keeps k) sets (λ e. update-kept current) (λ e. flush-kept)
 
+  -- they do not fit, or the ack memory is of no size
+  turn-unfit : (sets : Bool) (current : ℕ) → well ≡ false → unflushed k snd w BadPool ≡ turnOf k snd acks w sets current
+  unfolding flushOf updateOf
+  turn-unfit sets current h = sym (either-way (λ (o : FlushOut). o) sets _ _ (pick-false _ _ h) (pick-false _ _ h))
+
+  pub turn-unsized : (sets : Bool) (current : ℕ) → ackSizes (length acks) (length (w .waiting)) ≡ false → unflushed k snd w BadPool ≡ turnOf k snd acks w sets current
+  unfolding flushFits ackLent
+  turn-unsized sets current z =
+      turn-unfit sets current
+      (together (ownNumbers k) (sendLent (k .sender) snd) (ackLent (k .acklist) acks (w .waiting)) ∙ rw z (never (ownNumbers k && sendLent (k .sender) snd)))
+
   -- t tells whether block and memory fit
   module _ (sets : Bool) (current : ℕ) {t : Bool} (tested : t ≡ well) where
     pub turn-bad : not t ≡ true → unflushed k snd w BadPool ≡ turnOf k snd acks w sets current
-    unfolding flushOf updateOf
-    turn-bad h =
-        let no : well ≡ false = sym tested ∙ not-true t h in
-        sym (either-way (λ (o : FlushOut). o) sets _ _ (pick-false _ _ no) (pick-false _ _ no))
+    turn-bad h = turn-unfit sets current (sym tested ∙ not-true t h)
 
     module _ (passes : not t ≡ false) where
       all-well : well ≡ true
