@@ -2,7 +2,7 @@
 use Prim.Native.Nat.{ℕ, zero, suc, _+_, _-_, _/_, _≤_, _<_, min}
 use native.Mathlib.Omega.{arith}
 use mathlib.Core.Path.{_≡_, refl, sym, ap, _∙_}
-use mathlib.Core.Bool.{Bool, true, _&&_}
+use mathlib.Core.Bool.{true, _&&_}
 use mathlib.Core.List.{List, [], _∷_, _++_}
 use lib.ListN.{length, getD}
 use lib.Dec.{ltb}
@@ -24,8 +24,9 @@ use Rattle.transmit.proofs.Numbers.{rows-room}
 use Rattle.flushing.specs.Due.{numbered}
 use Rattle.flushing.specs.Clocks.{nearest, tmPacket}
 use Rattle.flight.specs.declared.Runs.{Runs}
+use Rattle.flight.specs.declared.Reckoning.{Reckoning}
 use Rattle.flight.specs.Places.{placesOf, runOf, over, Covers}
-use Rattle.flight.specs.Memory.{recordIn, renewedAt, launchedOver, launchedSender, launchedAt, resendtsAt, resendtsOver}
+use Rattle.flight.specs.Memory.{recordIn, renewedAt, launchedOver, launchedSender, launchedAt, resendtsAt, resendtsOver, reckonedOf}
 use Rattle.flight.proofs.Places.{over-append, places-next, places-end, run-next, run-end, run-all}
 use Rattle.flight.proofs.Walks.{launched-first, launched-none}
 use Rattle.flight.proofs.Out.{resendts-first, resendts-gap, resendts-live}
@@ -83,12 +84,12 @@ module _ (current : ℕ) where
   tm-append [] y tm = refl
   tm-append (n ∷ x) y tm = tm-append x y (nearest current n tm)
 
-  -- neither due nor sooner
-  pub later-stays : (resendts tm : ℕ) {wait : ℕ} → wait ≡ sub32 resendts current → tm ≤ wait → {t : Bool} → t ≡ ltb wait 2147483648 → t ≡ true → nearest current resendts tm ≡ tm
+  -- at the end of the wait or later, and not past
+  later-stays : current < 4294967296 → (resendts tm : ℕ) {x : ℕ} → x ≡ sub32 resendts (add32 current tm) → x < 2147483648 - tm → nearest current resendts tm ≡ tm
   unfolding nearest pick
-  later-stays resendts tm {wait} e h f g =
-      let l = sym f ∙ g in
-      rw (← e, l) (of wait tm h)
+  later-stays k resendts tm {x} e h =
+      let w : sub32 resendts current ≡ x + tm = omega arith in
+      rw (w, lt-ltb (x + tm) 2147483648 (omega arith)) (of (x + tm) tm (omega arith))
     where
       of : (wait tm : ℕ) → tm ≤ wait → pick (ltb 0 wait && true) (min wait tm) 0 ≡ tm
       of zero tm h = omega arith
@@ -104,10 +105,16 @@ module _ (current : ℕ) where
     unfolding tmPacket recordIn
     tm-live z f g room = rw (resendts-live (storeOf 8 (lists a room)) q (λ y. z (mark-at a e q h room ∙ y)), g, f, rows-room a [] room)
 
-    -- either way it stays
-    pub tm-later : {x : ℕ} → x ≡ numberAt 8 (storeOf 8 (lists a []) .rows) q resendts → nearest current x tm ≡ tm
+    -- a segment that is to be resent then, gap or not
+    tm-later : current < 4294967296 → {x : ℕ} → x ≡ numberAt 8 (storeOf 8 (lists a []) .rows) q resendts → {y : ℕ} → y ≡ sub32 x (add32 current tm) → y < 2147483648 - tm
         → (room : List ℕ) → tm ≡ tmPacket current (resendtsAt (storeOf 8 (lists a room)) q) tm
-    tm-later f g room = by-live (getD a q 0) (λ z _. tm-gap z room) (λ z _. tm-live z f (sym g) room)
+    tm-later k {x} f g n room = by-live (getD a q 0) (λ z _. tm-gap z room) (λ z _. tm-live z f (sym (later-stays k x tm g n)) room)
+
+    pub step-stays : current < 4294967296 → {w : Reckoning} → w ≡ reckonedOf current tm → {x : ℕ} → x ≡ numberAt 8 (storeOf 8 (lists a []) .rows) q resendts → {y : ℕ} → y ≡ sub32 x (w .until) → y < w .ahead
+        → (room : List ℕ) → w ≡ reckonedOf current (tmPacket current (resendtsAt (storeOf 8 (lists a room)) q) tm)
+    step-stays k {w} d {x} f {y} g n room =
+        let u = ap (λ (v : Reckoning). v .ahead) d in
+        d ∙ ap (reckonedOf current) (tm-later k f (g ∙ ap (λ (v : Reckoning). sub32 x (v .until)) d) (omega arith) room)
 
   module _ (m : Store) where
     pub tm-next : (q to tm : ℕ) → q < to → {x : ℕ} → x ≡ tmPacket current (resendtsAt m q) tm

@@ -1,6 +1,5 @@
 // What a flush does to the send ring in lent memory.
 ghost use mathlib.Core.Path.{_≡_};
-ghost use mathlib.Core.Bool.{true};
 ghost use mathlib.Core.List.{List};
 ghost use Prim.Native.Nat.{ℕ, _+_, _/_, _≤_, _<_, _-_};
 ghost use lib.ListN.{length};
@@ -8,10 +7,10 @@ ghost use Rattle.ring.specs.Lists.{lists};
 ghost use Rattle.snd_ring.specs.Store.{storeOf};
 ghost use Rattle.transmit.specs.Memory.{side};
 ghost use Rattle.transmit.specs.Fits.{Lies};
-ghost use Rattle.flushing.specs.Clocks.{nearest, tmPacket};
+ghost use Rattle.flushing.specs.Clocks.{tmPacket};
 ghost use Rattle.flushing.specs.Due.{numbered};
 ghost use Rattle.flight.specs.Places.{placesOf, runOf, Covers};
-ghost use Rattle.flight.specs.Memory.{recordIn, renewedAt, flightPlaces, launchedOver, launchedAt, resendtsAt, resendtsOver};
+ghost use Rattle.flight.specs.Memory.{recordIn, renewedAt, flightPlaces, launchedOver, launchedAt, resendtsAt, resendtsOver, reckonedOf};
 use block::sender::Sender;
 use flushing::clock::nearest;
 use flushing::due::Record;
@@ -195,31 +194,62 @@ pub fn launch(
     }
 }
 
-// Whether a segment that is to be resent then is neither due nor sooner than tm, so that the wait stays.
-fn later(current: u32, resendts: u32, tm: u32) -> bool
-    ensures { λ r. ⌜ (r ≡ true → nearest current resendts tm ≡ tm) ⌝ }
-{
-    let wait = serial::sub(resendts, current);
-    if wait < tm {
-        return false;
-    }
-    wait < 0x8000_0000
-}
-
-// The wait for the segments, with that at place q; a gap is passed over. Few shorten it, and their marks are looked at then.
+// The wait for the segments, with that at place q; a gap is passed over.
 fn tm_at(records: &[u32], slots: usize, q: usize, current: u32, tm: u32) -> u32
     requires { ⌜ slots ≡ length (now records) / 9 ⌝ }
     requires { ⌜ q < slots ⌝ }
     ensures { λ r. ⌜ ((room : List ℕ) → r ≡ tmPacket current (resendtsAt (storeOf 8 (lists (now (records .entry)) room)) q) tm) ⌝ }
 {
-    let resendts = snd_ring::number_at(records, slots, q, RESENDTS);
-    if later(current, resendts, tm) {
-        return tm;
-    }
     if records[q] == 0 {
         return tm;
     }
-    nearest(current, resendts, tm)
+    nearest(
+        current,
+        snd_ring::number_at(records, slots, q, RESENDTS),
+        tm,
+    )
+}
+
+// A wait, the time when it is over, and how many times there are from then on before those that are past.
+pub struct Reckoning {
+    pub tm: u32,
+    pub until: u32,
+    pub ahead: u32,
+}
+
+// How many times there are from a wait's end on before those that are past.
+fn ahead_of(tm: u32) -> u32
+    ensures { λ r. ⌜ r ≡ 2147483648 - tm ⌝ }
+{
+    if tm < 0x8000_0000 {
+        return 0x8000_0000 - tm;
+    }
+    0
+}
+
+// The reckoning of a wait.
+fn reckoned(current: u32, tm: u32) -> Reckoning
+    ensures { λ r. ⌜ r ≡ reckonedOf current tm ⌝ }
+{
+    Reckoning {
+        tm: tm,
+        until: serial::add(current, tm),
+        ahead: ahead_of(tm),
+    }
+}
+
+// The same as tm_at of a wait that is reckoned: a segment that is to be resent when the wait is over or later leaves it by one test, gap or not.
+fn tm_step(records: &[u32], slots: usize, q: usize, current: u32, w: Reckoning) -> Reckoning
+    requires { ⌜ slots ≡ length (now records) / 9 ⌝ }
+    requires { ⌜ q < slots ⌝ }
+    requires { ⌜ w ≡ reckonedOf current (w .tm) ⌝ }
+    ensures { λ r. ⌜ ((room : List ℕ) → r ≡ reckonedOf current (tmPacket current (resendtsAt (storeOf 8 (lists (now (records .entry)) room)) q) (w .tm))) ⌝ }
+{
+    let resendts = snd_ring::number_at(records, slots, q, RESENDTS);
+    if serial::sub(resendts, w.until) < w.ahead {
+        return w;
+    }
+    reckoned(current, tm_at(records, slots, q, current, w.tm))
 }
 
 // The same with those at the places from `from` up to `to`.
@@ -229,13 +259,13 @@ fn tm_run(records: &[u32], slots: usize, from: usize, to: usize, current: u32, t
     requires { ⌜ to ≤ slots ⌝ }
     ensures { λ r. ⌜ ((room : List ℕ) → r ≡ tmPacket current (resendtsOver (runOf from (to - from)) (storeOf 8 (lists (now (records .entry)) room))) tm) ⌝ }
 {
-    let mut least = tm;
+    let mut w = reckoned(current, tm);
     let mut q = from;
     while q < to {
-        least = tm_at(records, slots, q, current, least);
+        w = tm_step(records, slots, q, current, w);
         q += 1;
     }
-    least
+    w.tm
 }
 
 // How long check waits for the segments in flight, and at most tm.
