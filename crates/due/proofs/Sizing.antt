@@ -5,8 +5,10 @@ use mathlib.Core.Path.{_≡_, refl, sym, ap, _∙_}
 use mathlib.Core.Bool.{Bool, true, false, not}
 use mathlib.Core.List.{List, [], _∷_, _++_}
 use lib.ListN.{length, getD}
-use borrow.Author.Tests.{not-true, not-false}
-use Rattle.serial.specs.Branch.{pick-true, pick-false}
+use lib.Dec.{leb}
+use borrow.Author.Tests.{not-false, ne-eqb}
+use Rattle.serial.specs.Branch.{pick, pick-true, pick-false}
+use Rattle.serial.specs.Wrap.{notBefore}
 use Rattle.ring.specs.Lists.{lists}
 use Rattle.ring.specs.Places.{place}
 use Rattle.ring.proofs.Places.{place-in}
@@ -18,7 +20,7 @@ use Rattle.snd_ring.proofs.Splits.{marks-length}
 use Rattle.flushing.specs.declared.due.Pace.{Pace}
 use Rattle.flushing.specs.declared.due.Record.{Record}
 use Rattle.flushing.specs.declared.due.Flown.{Flown}
-use Rattle.flushing.specs.Due.{dueOf, flownBy, goesOut}
+use Rattle.flushing.specs.Due.{resendsFast, dueOf, flownBy, goesOut}
 use Rattle.flushing.specs.Pack.{sumOf}
 use Rattle.packing.specs.declared.packer.Packer.{Packer}
 use Rattle.packing.specs.Packer.{sized}
@@ -37,6 +39,14 @@ pub goes-by : (pace : Pace) (r s : Record) (f : Flown) (t : Bool) → r ≡ s �
 unfolding flownBy
 goes-by pace r s f t a b c = c ∙ rw (b, a)
 
+-- ---- `stirs`
+
+-- fresh, out of time, or named by later acks: of none of these nothing goes out
+pub calm : (pace : Pace) (r s : Record) → r ≡ s → (r .xmit ≡ 0 → ⊥) → {t : Bool} → t ≡ notBefore (pace .current) (r .resendts) → t ≡ false → leb (pace .resent) (r .fastack) ≡ false
+    → goesOut (dueOf pace s) ≡ false
+unfolding dueOf resendsFast pick
+calm pace r s e x f g l = rw (← e, ne-eqb (r .xmit) 0 x, sym f ∙ g, l)
+
 -- ---- one piece
 
 -- by how much the packer grows
@@ -47,23 +57,21 @@ grows mtu p r k e h =
     let c = ap (λ (q : Packer). q .count) e ∙ sized-count mtu p (k ∷ []) in
     (omega arith, omega (arith, cuts-few mtu (p .used) (k ∷ [])))
 
--- t tells whether what stands at place q goes out, gap or not
-module _ (pace : Pace) (mtu : ℕ) (p : Packer) (a : List ℕ) {slots : ℕ} (e : slots ≡ length a / 9) (q : ℕ) (h : q < slots) {t : Bool}
-    (f : (room : List ℕ) → t ≡ goesOut (dueOf pace (recordIn (storeOf 8 (lists a room)) q))) where
+module _ (pace : Pace) (mtu : ℕ) (p : Packer) (a : List ℕ) {slots : ℕ} (e : slots ≡ length a / 9) (q : ℕ) (h : q < slots) where
   none : (m : Store) → goesAt pace m q ≡ false → p ≡ sized mtu p (sizeAt pace m q)
   unfolding sizeAt
   none m g = rw (pick-false (sizeIn m q ∷ []) [] g) (sym (sized-none mtu p))
 
-  pub size-idle : not t ≡ true → (room : List ℕ) → p ≡ sized mtu p (sizeAt pace (storeOf 8 (lists a room)) q)
-  size-idle n room = none (storeOf 8 (lists a room)) (goes-idle pace (storeOf 8 (lists a room)) q (sym (f room) ∙ not-true t n))
+  pub size-idle : ((room : List ℕ) → goesOut (dueOf pace (recordIn (storeOf 8 (lists a room)) q)) ≡ false) → (room : List ℕ) → p ≡ sized mtu p (sizeAt pace (storeOf 8 (lists a room)) q)
+  size-idle f room = none (storeOf 8 (lists a room)) (goes-idle pace (storeOf 8 (lists a room)) q (f room))
 
   pub size-gap : getD a q 0 ≡ 0 → (room : List ℕ) → p ≡ sized mtu p (sizeAt pace (storeOf 8 (lists a room)) q)
   size-gap z room = none (storeOf 8 (lists a room)) (goes-gap pace (storeOf 8 (lists a room)) q (sym (mark-at a e q h room) ∙ z))
 
-  pub size-one : not t ≡ false → (getD a q 0 ≡ 0 → ⊥) → {r : Packer} → r ≡ sized mtu p ((24 + (getD a q 0 - 1)) ∷ [])
+  pub size-one : {t : Bool} → ((room : List ℕ) → t ≡ goesOut (dueOf pace (recordIn (storeOf 8 (lists a room)) q))) → not t ≡ false → (getD a q 0 ≡ 0 → ⊥) → {r : Packer} → r ≡ sized mtu p ((24 + (getD a q 0 - 1)) ∷ [])
       → (room : List ℕ) → r ≡ sized mtu p (sizeAt pace (storeOf 8 (lists a room)) q)
   unfolding sizeAt
-  size-one n z g room =
+  size-one {t} f n z g room =
       let m = storeOf 8 (lists a room) in
       let k = mark-at a e q h room in
       g ∙ rw (k, pick-true (sizeIn m q ∷ []) [] (goes-live pace m q (λ y. z (k ∙ y)) ∙ sym (f room) ∙ not-false t n))

@@ -14,17 +14,14 @@ use Rattle.ring.specs.Records.{put, partSlot}
 use Rattle.ring.proofs.Rows.{part-length, put-put}
 use Rattle.snd_ring.specs.declared.SndRing.{SndRing}
 use Rattle.snd_ring.specs.Store.{Store, storeOf, Sized, Sound}
-use Rattle.snd_ring.proofs.Marks.{by-live}
 use Rattle.snd_ring.proofs.Splits.{marks-length, store-room}
 use Rattle.snd_ring.proofs.Views.{in-room}
 use Rattle.flushing.specs.declared.due.Pace.{Pace}
 use Rattle.flushing.specs.declared.due.Record.{Record}
-use Rattle.flushing.specs.declared.due.Due.{Due}
-use Rattle.flushing.specs.declared.due.Due.the-variants.{Idle, Fresh, TimedOut, Fast}
 use Rattle.flushing.specs.declared.due.Flown.{Flown}
 use Rattle.flushing.specs.declared.due.Tally.{Tally}
 use Rattle.flushing.specs.declared.headers.Told.{Told}
-use Rattle.flushing.specs.Due.{dueOf, sentAs, flownBy, goesOut, withSent}
+use Rattle.flushing.specs.Due.{dueOf, flownBy, goesOut, withSent}
 use Rattle.flushing.specs.Pack.{flat, goesSize, packSizes}
 use Rattle.flushing.specs.Pieces.{pushHead}
 use Rattle.flushing.proofs.Packing.{AtMost, flat-append, length-flat}
@@ -37,8 +34,8 @@ use Rattle.flight.specs.declared.Runs.{Runs}
 use Rattle.flight.specs.Places.{runOf, Each, Covers}
 use Rattle.flight.specs.Memory.{recordIn, renewedAt, markIn, flightPlaces, flownAt, flownOver, talliedAt, tallyOver, goesAt, bytesIn, pieceAt, piecesOver}
 use Rattle.flight.proofs.Places.{each-append, places-each, places-below, run-next, run-end}
-use Rattle.flight.proofs.Rows.{renewed-same}
 use Rattle.flight.proofs.Walks.{flown-gap, flown-live, flown-none, flown-append, flown-marks, flown-sized}
+use Rattle.flight.proofs.Idle.{flown-idle, tallied-idle}
 use Rattle.flight.proofs.Steps.{mark-at, runs-by}
 use Rattle.flight.proofs.Out.{goes-gap, goes-idle, goes-live, at-marks, at-sized, pieces-none, pieces-first, pieces-append, tally-none, tally-append, tallied-gap, tallied-live}
 use Rattle.due.specs.Pass.{Pass, pass, bytesPut, lengthsPut, passOver, Roomy, Fits}
@@ -192,12 +189,6 @@ module _ (told : Told) (pace : Pace) (deadLink mtu : ℕ) (most : mtu ≤ 1500) 
 
 -- ---- one place
 
-idle-due : (d : Due) → goesOut d ≡ false → d ≡ Idle
-idle-due Idle h = refl
-idle-due Fresh h = cc
-idle-due TimedOut h = cc
-idle-due Fast h = cc
-
 module _ (told : Told) (pace : Pace) (deadLink mtu : ℕ) (a room out lengths : List ℕ) (p : Packer) (t : Tally) {slots : ℕ} (e : slots ≡ length a / 9) (q : ℕ) (h : q < slots) where
   abbrev m : Store
   m = storeOf 8 (lists a room)
@@ -235,21 +226,10 @@ module _ (told : Told) (pace : Pace) (deadLink mtu : ℕ) (a room out lengths : 
       unfolding flownBy
       due-is = ap (λ (y : Flown). y .due) flown-is
 
-      idle-row : dueOf pace (recordIn m q) ≡ Idle → flownBy pace (recordIn m q) .after ≡ recordIn m q
-      unfolding flownBy sentAs
-      idle-row d = rw d
-
-      idle-tally : dueOf pace (recordIn m q) ≡ Idle → (xmit : ℕ) → withSent deadLink (dueOf pace (recordIn m q)) xmit t ≡ t
-      unfolding withSent
-      idle-tally d xmit = rw d
-
       pub write-idle : not g ≡ true → x ≡ passOver told pace deadLink mtu (q ∷ []) x
       write-idle n =
           let z = rw due-is at (sym eg ∙ not-true g n) in
-          let d = idle-due (dueOf pace (recordIn m q)) z in
-          nothing (goes-idle pace m q z)
-          (by-live (markIn m q) (λ y _. flown-gap pace m q y) (λ y _. flown-live pace m q y ∙ rw (idle-row d) (renewed-same m (f .agree) q (f .below .0))))
-          (by-live (markIn m q) (λ y _. tallied-gap deadLink pace m q t y) (λ y _. tallied-live deadLink pace m q t y ∙ idle-tally d _))
+          nothing (goes-idle pace m q z) (flown-idle pace m q (λ _. z) (f .agree) (f .below .0)) (tallied-idle pace m q (λ _. z) deadLink t)
 
       -- it goes out
       module _ (n : not g ≡ false) (live : getD a q 0 ≡ 0 → ⊥) where

@@ -1,6 +1,7 @@
 // The fresh and resent segments of a flush: by their sizes alone, and written. Both passes go over the places in flight, one run of them or two round
 // the ring's end, gaps passed over.
 ghost use mathlib.Core.Path.{_≡_};
+ghost use mathlib.Core.Bool.{false};
 ghost use mathlib.Core.List.{List, [], _∷_, _++_};
 ghost use Prim.Native.Nat.{ℕ, _+_, _-_, _*_, _/_, _≤_, _<_, _^_};
 ghost use lib.ListN.{length, getD};
@@ -21,7 +22,7 @@ use packing::puts::put_header;
 use snd_ring::SndRing;
 use wire::Header;
 
-// Whether what stands at place q would go out, gap or not: few rows do, and their marks are looked at then.
+// Whether what stands at place q would go out, gap or not.
 fn goes(records: &[u32], slots: usize, q: usize, pace: Pace) -> bool
     requires { ⌜ slots ≡ length (now records) / 9 ⌝ }
     requires { ⌜ q < slots ⌝ }
@@ -30,6 +31,22 @@ fn goes(records: &[u32], slots: usize, q: usize, pace: Pace) -> bool
     let flown = flight::record_at(records, slots, q).flown_by(pace);
     let due = flown.due;
     due.goes_out()
+}
+
+// Whether what stands at place q may go out, gap or not, by one test for each reason: few rows do, and those are looked at further.
+fn stirs(records: &[u32], slots: usize, q: usize, pace: Pace) -> bool
+    requires { ⌜ slots ≡ length (now records) / 9 ⌝ }
+    requires { ⌜ q < slots ⌝ }
+    ensures { λ r. ⌜ ((room : List ℕ) → r ≡ false → goesOut (dueOf pace (recordIn (storeOf 8 (lists (now (records .entry)) room)) q)) ≡ false) ⌝ }
+{
+    let record = flight::record_at(records, slots, q);
+    if record.xmit == 0 {
+        return true;
+    }
+    if serial::not_before(pace.current, record.resendts) {
+        return true;
+    }
+    pace.resent <= record.fastack
 }
 
 // The segment at place q, if it goes out, by its size.
@@ -49,11 +66,14 @@ fn size_at(
     ensures { λ r. ⌜ ((room : List ℕ) → r ≡ sized mtu packer (sizeAt pace (storeOf 8 (lists (now (records .entry)) room)) q)) ⌝ }
     ensures { λ r. ⌜ (r .start + r .used ≤ packer .start + packer .used + 1500) × (r .count ≤ packer .count + 1) ⌝ }
 {
-    if !goes(records, slots, q, pace) {
+    if !stirs(records, slots, q, pace) {
         return packer;
     }
     let mark = records[q];
     if mark == 0 {
+        return packer;
+    }
+    if !goes(records, slots, q, pace) {
         return packer;
     }
     packer.size(mtu, wire::OVERHEAD + (mark - 1) as usize)

@@ -1,16 +1,21 @@
 -- What the steps of the code find and leave, in the words of `specs/Memory.antt`. Assumes nothing.
-use Prim.Native.Nat.{ℕ, _+_, _-_, _/_, _≤_, _<_}
+use Prim.Native.Nat.{ℕ, zero, suc, _+_, _-_, _/_, _≤_, _<_, min}
 use native.Mathlib.Omega.{arith}
 use mathlib.Core.Path.{_≡_, refl, sym, ap, _∙_}
+use mathlib.Core.Bool.{true, _&&_}
 use mathlib.Core.List.{List, [], _∷_, _++_}
 use lib.ListN.{length, getD}
-use Rattle.serial.specs.Wrap.{add32}
+use lib.Dec.{ltb}
+use borrow.Author.Tests.{lt-ltb}
+use Rattle.serial.specs.Branch.{pick}
+use Rattle.serial.specs.Wrap.{add32, sub32}
 use Rattle.ring.specs.Lists.{lists}
 use Rattle.ring.specs.Places.{place}
 use Rattle.ring.specs.Records.{numberAt}
 use Rattle.ring.proofs.Counting.{count-le}
 use Rattle.snd_ring.specs.Store.{Store, storeOf}
 use Rattle.snd_ring.specs.Steps.{ring}
+use Rattle.snd_ring.proofs.Marks.{by-live}
 use Rattle.snd_ring.proofs.Splits.{marks-length, mark-read}
 use Rattle.block.specs.declared.sender.Sender.{Sender}
 use Rattle.transmit.specs.Memory.{resendts, side}
@@ -19,8 +24,9 @@ use Rattle.transmit.proofs.Numbers.{rows-room}
 use Rattle.flushing.specs.Due.{numbered}
 use Rattle.flushing.specs.Clocks.{nearest, tmPacket}
 use Rattle.flight.specs.declared.Runs.{Runs}
+use Rattle.flight.specs.declared.Reckoning.{Reckoning}
 use Rattle.flight.specs.Places.{placesOf, runOf, over, Covers}
-use Rattle.flight.specs.Memory.{recordIn, renewedAt, launchedOver, launchedSender, launchedAt, resendtsAt, resendtsOver}
+use Rattle.flight.specs.Memory.{recordIn, renewedAt, launchedOver, launchedSender, launchedAt, resendtsAt, resendtsOver, reckonedOf}
 use Rattle.flight.proofs.Places.{over-append, places-next, places-end, run-next, run-end, run-all}
 use Rattle.flight.proofs.Walks.{launched-first, launched-none}
 use Rattle.flight.proofs.Out.{resendts-first, resendts-gap, resendts-live}
@@ -78,6 +84,17 @@ module _ (current : ℕ) where
   tm-append [] y tm = refl
   tm-append (n ∷ x) y tm = tm-append x y (nearest current n tm)
 
+  -- at the end of the wait or later, and not past
+  later-stays : current < 4294967296 → (resendts tm : ℕ) {x : ℕ} → x ≡ sub32 resendts (add32 current tm) → x < 2147483648 - tm → nearest current resendts tm ≡ tm
+  unfolding nearest pick
+  later-stays k resendts tm {x} e h =
+      let w : sub32 resendts current ≡ x + tm = omega arith in
+      rw (w, lt-ltb (x + tm) 2147483648 (omega arith)) (of (x + tm) tm (omega arith))
+    where
+      of : (wait tm : ℕ) → tm ≤ wait → pick (ltb 0 wait && true) (min wait tm) 0 ≡ tm
+      of zero tm h = omega arith
+      of (suc n) tm h = rw (lt-ltb 0 (suc n) (omega arith)) (omega arith)
+
   module _ (a : List ℕ) {slots : ℕ} (e : slots ≡ length a / 9) (q : ℕ) (h : q < slots) (tm : ℕ) where
     pub tm-gap : getD a q 0 ≡ 0 → (room : List ℕ) → tm ≡ tmPacket current (resendtsAt (storeOf 8 (lists a room)) q) tm
     unfolding tmPacket
@@ -87,6 +104,17 @@ module _ (current : ℕ) where
         → (room : List ℕ) → r ≡ tmPacket current (resendtsAt (storeOf 8 (lists a room)) q) tm
     unfolding tmPacket recordIn
     tm-live z f g room = rw (resendts-live (storeOf 8 (lists a room)) q (λ y. z (mark-at a e q h room ∙ y)), g, f, rows-room a [] room)
+
+    -- a segment that is to be resent then, gap or not
+    tm-later : current < 4294967296 → {x : ℕ} → x ≡ numberAt 8 (storeOf 8 (lists a []) .rows) q resendts → {y : ℕ} → y ≡ sub32 x (add32 current tm) → y < 2147483648 - tm
+        → (room : List ℕ) → tm ≡ tmPacket current (resendtsAt (storeOf 8 (lists a room)) q) tm
+    tm-later k {x} f g n room = by-live (getD a q 0) (λ z _. tm-gap z room) (λ z _. tm-live z f (sym (later-stays k x tm g n)) room)
+
+    pub step-stays : current < 4294967296 → {w : Reckoning} → w ≡ reckonedOf current tm → {x : ℕ} → x ≡ numberAt 8 (storeOf 8 (lists a []) .rows) q resendts → {y : ℕ} → y ≡ sub32 x (w .until) → y < w .ahead
+        → (room : List ℕ) → w ≡ reckonedOf current (tmPacket current (resendtsAt (storeOf 8 (lists a room)) q) tm)
+    step-stays k {w} d {x} f {y} g n room =
+        let u = ap (λ (v : Reckoning). v .ahead) d in
+        d ∙ ap (reckonedOf current) (tm-later k f (g ∙ ap (λ (v : Reckoning). sub32 x (v .until)) d) (omega arith) room)
 
   module _ (m : Store) where
     pub tm-next : (q to tm : ℕ) → q < to → {x : ℕ} → x ≡ tmPacket current (resendtsAt m q) tm

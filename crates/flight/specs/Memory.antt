@@ -20,6 +20,7 @@ use Rattle.flushing.specs.declared.due.Tally.{Tally}
 use Rattle.flushing.specs.declared.headers.Told.{Told}
 use Rattle.flushing.specs.Due.{numbered, dueOf, flownBy, goesOut, withSent}
 use Rattle.flushing.specs.Pieces.{pushHead}
+use Rattle.flight.specs.declared.Reckoning.{Reckoning}
 use Rattle.flight.specs.Places.{placesOf, over}
 
 -- ---- a row as a record
@@ -134,3 +135,7 @@ freshSizes qs m = map (sizeIn m) qs
 -- when the segments are to be resent
 unfoldable pub resendtsOver : List ℕ → Store → List ℕ
 resendtsOver qs m = over (resendtsAt m) qs
+
+-- ---- a wait at the time `current`: when it is over, and how many times there are from then on before those that are past
+abbrev pub reckonedOf : ℕ → ℕ → Reckoning
+reckonedOf current tm = record { tm = tm; until = add32 current tm; ahead = 2147483648 - tm }

@@ -1,7 +1,7 @@
 // What a flush does to the send ring in lent memory.
 ghost use mathlib.Core.Path.{_≡_};
 ghost use mathlib.Core.List.{List};
-ghost use Prim.Native.Nat.{ℕ, _+_, _/_, _≤_, _<_, _^_, _-_};
+ghost use Prim.Native.Nat.{ℕ, _+_, _/_, _≤_, _<_, _-_};
 ghost use lib.ListN.{length};
 ghost use Rattle.ring.specs.Lists.{lists};
 ghost use Rattle.snd_ring.specs.Store.{storeOf};
@@ -10,7 +10,7 @@ ghost use Rattle.transmit.specs.Fits.{Lies};
 ghost use Rattle.flushing.specs.Clocks.{tmPacket};
 ghost use Rattle.flushing.specs.Due.{numbered};
 ghost use Rattle.flight.specs.Places.{placesOf, runOf, Covers};
-ghost use Rattle.flight.specs.Memory.{recordIn, renewedAt, flightPlaces, launchedOver, launchedAt, resendtsAt, resendtsOver};
+ghost use Rattle.flight.specs.Memory.{recordIn, renewedAt, flightPlaces, launchedOver, launchedAt, resendtsAt, resendtsOver, reckonedOf};
 use block::sender::Sender;
 use flushing::clock::nearest;
 use flushing::due::Record;
@@ -210,6 +210,48 @@ fn tm_at(records: &[u32], slots: usize, q: usize, current: u32, tm: u32) -> u32
     )
 }
 
+// A wait, the time when it is over, and how many times there are from then on before those that are past.
+pub struct Reckoning {
+    pub tm: u32,
+    pub until: u32,
+    pub ahead: u32,
+}
+
+// How many times there are from a wait's end on before those that are past.
+fn ahead_of(tm: u32) -> u32
+    ensures { λ r. ⌜ r ≡ 2147483648 - tm ⌝ }
+{
+    if tm < 0x8000_0000 {
+        return 0x8000_0000 - tm;
+    }
+    0
+}
+
+// The reckoning of a wait.
+fn reckoned(current: u32, tm: u32) -> Reckoning
+    ensures { λ r. ⌜ r ≡ reckonedOf current tm ⌝ }
+{
+    Reckoning {
+        tm: tm,
+        until: serial::add(current, tm),
+        ahead: ahead_of(tm),
+    }
+}
+
+// The same as tm_at of a wait that is reckoned: a segment that is to be resent when the wait is over or later leaves it by one test, gap or not.
+fn tm_step(records: &[u32], slots: usize, q: usize, current: u32, w: Reckoning) -> Reckoning
+    requires { ⌜ slots ≡ length (now records) / 9 ⌝ }
+    requires { ⌜ q < slots ⌝ }
+    requires { ⌜ w ≡ reckonedOf current (w .tm) ⌝ }
+    ensures { λ r. ⌜ ((room : List ℕ) → r ≡ reckonedOf current (tmPacket current (resendtsAt (storeOf 8 (lists (now (records .entry)) room)) q) (w .tm))) ⌝ }
+{
+    let resendts = snd_ring::number_at(records, slots, q, RESENDTS);
+    if serial::sub(resendts, w.until) < w.ahead {
+        return w;
+    }
+    reckoned(current, tm_at(records, slots, q, current, w.tm))
+}
+
 // The same with those at the places from `from` up to `to`.
 fn tm_run(records: &[u32], slots: usize, from: usize, to: usize, current: u32, tm: u32) -> u32
     requires { ⌜ slots ≡ length (now records) / 9 ⌝ }
@@ -217,24 +259,24 @@ fn tm_run(records: &[u32], slots: usize, from: usize, to: usize, current: u32, t
     requires { ⌜ to ≤ slots ⌝ }
     ensures { λ r. ⌜ ((room : List ℕ) → r ≡ tmPacket current (resendtsOver (runOf from (to - from)) (storeOf 8 (lists (now (records .entry)) room))) tm) ⌝ }
 {
-    let mut least = tm;
+    let mut w = reckoned(current, tm);
     let mut q = from;
     while q < to {
-        least = tm_at(records, slots, q, current, least);
+        w = tm_step(records, slots, q, current, w);
         q += 1;
     }
-    least
+    w.tm
 }
 
-// How long check waits for the segments in flight.
-pub fn tm_packet(ring: SndRing, records: &[u32], current: u32) -> u32
+// How long check waits for the segments in flight, and at most tm.
+pub fn tm_packet(ring: SndRing, records: &[u32], current: u32, tm: u32) -> u32
     requires { ⌜ length (now records) / 9 ≤ 65535 ⌝ }
     requires { ⌜ ring .start < length (now records) / 9 ⌝ }
     requires { ⌜ ring .reach ≤ length (now records) / 9 ⌝ }
-    ensures { λ r. ⌜ ((room : List ℕ) → r ≡ tmPacket current (resendtsOver (flightPlaces ring (storeOf 8 (lists (now (records .entry)) room))) (storeOf 8 (lists (now (records .entry)) room))) (2 ^ 32 - 1)) ⌝ }
+    ensures { λ r. ⌜ ((room : List ℕ) → r ≡ tmPacket current (resendtsOver (flightPlaces ring (storeOf 8 (lists (now (records .entry)) room))) (storeOf 8 (lists (now (records .entry)) room))) tm) ⌝ }
 {
     let slots = snd_ring::slots_in(records.len());
     let runs = runs_of(slots, ring.start as usize, 0, ring.reach as usize);
-    let tm = tm_run(records, slots, runs.from, runs.to, current, u32::MAX);
-    tm_run(records, slots, 0, runs.rest, current, tm)
+    let least = tm_run(records, slots, runs.from, runs.to, current, tm);
+    tm_run(records, slots, 0, runs.rest, current, least)
 }

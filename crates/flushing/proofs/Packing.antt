@@ -174,3 +174,33 @@ module _ (mtu : ℕ) where
     unfolding packAllSizes
     all-most n ks h a =
         at-most-append b (packSizes mtu n ks .0) (datagramSize (packSizes mtu n ks .1)) (each-most n ks h a) (datagram-most b (packSizes mtu n ks .1) (rest-most n ks h a))
+
+-- no datagram of no bytes
+module _ (mtu : ℕ) where
+  none-goes : goesSize mtu 0 0 ≡ []
+  unfolding goesSize datagramSize pick
+  none-goes = of (ltb mtu (0 + 0))
+    where
+      of : (t : Bool) → pick t (datagramSize 0) [] ≡ []
+      of true = refl
+      of false = refl
+
+  none-stays : staysSize mtu 0 0 ≡ 0
+  none-stays = let s = step-sum mtu 0 0 in omega arith
+
+  none-packed : (ks : List ℕ) → sumOf ks ≡ 0 → (packSizes mtu 0 ks .0 ≡ []) × (packSizes mtu 0 ks .1 ≡ 0)
+  unfolding packSizes sumOf
+  none-packed [] e = (refl, refl)
+  none-packed (k ∷ ks) e =
+      let z : k ≡ 0 = omega arith in
+      let g : goesSize mtu 0 k ≡ [] = rw z none-goes in
+      let s : staysSize mtu 0 k ≡ 0 = rw z none-stays in
+      let i = none-packed ks (omega arith) in
+      (rw (g, s) (i .0), ap (λ (n : ℕ). packSizes mtu n ks .1) s ∙ i .1)
+
+  pub all-none : (n : ℕ) (ks : List ℕ) → n + sumOf ks ≡ 0 → packAllSizes mtu n ks ≡ []
+  unfolding packAllSizes datagramSize
+  all-none n ks e =
+      let z : n ≡ 0 = omega arith in
+      let i = none-packed ks (omega arith) in
+      rw (z, i .0, i .1)

@@ -1,11 +1,17 @@
 // flush_ack, flush, update and check of a block that a host keeps as words.
 ghost use mathlib.Core.Path.{_≡_};
+ghost use lib.Dec.{eqb};
+ghost use lib.ListN.{length};
+ghost use Rattle.serial.specs.Branch.{pick};
+ghost use Rattle.words.specs.Words.{withTurnWords, withSentWords};
 ghost use Rattle.ring.specs.Lists.{lists};
 ghost use Rattle.snd_ring.specs.Store.{storeOf};
 ghost use Rattle.packing.specs.FlushAck.{writing};
-ghost use Rattle.kcp_flush.specs.Calls.{flushAckOf, flushOf, updateOf, numberOfWait};
+ghost use Rattle.kcp_flush.specs.Calls.{flushAckOf, flushOf, updateOf, turnOf, numberOfWait};
 ghost use Rattle.host_flush.specs.Words.{countIn, waitIn, WordsOut, WordsFlushed, WordsChecked};
+use block::Kcp;
 use block::refusal::Answer;
+use block::sizes::ack_sizes;
 use kcp_flush::Wait;
 
 // The datagrams of a call that is done, or n where it is refused.
@@ -40,6 +46,56 @@ pub fn flush_ack(
     answer.number()
 }
 
+// Writes the block that a flush or an update leaves: the words that it can have changed.
+fn put_left(block: Kcp, datagrams: usize, words: &mut [u32])
+    requires { ⌜ length (now words) ≡ 35 ⌝ }
+    ensures { λ _. ⌜ now (words .exit) ≡ pick (eqb datagrams 0) (withTurnWords block (now (words .entry))) (withSentWords block (now (words .entry))) ⌝ }
+{
+    if datagrams == 0 {
+        words::put_turned(block, words);
+        return;
+    }
+    words::put_sent(block, words);
+}
+
+// An update to that time, or a flush where `sets` is false; one function for both, so that the block is read out of the words there and never laid out
+// in memory. Its callers test the sizes of the ack memory before, while they hold them: what they hand on unseen is copied two numbers at a time, which
+// waits for their own caller's writes.
+fn turn(
+    words: &mut [u32],
+    sets: bool,
+    current: u32,
+    records: &mut [u32],
+    room: &[u8],
+    acks: &[u32],
+    waiting: &[u8],
+    out: &mut [u8],
+    lengths: &mut [u16],
+    datagrams: &mut usize,
+) -> u32
+    ensures { λ r. ⌜ WordsFlushed (λ k. turnOf k (lists (now (records .entry)) (now (room .entry))) (now (acks .entry)) (writing (now (waiting .entry)) (now (out .entry)) (now (lengths .entry))) sets current) (lists (now (records .entry)) (now (room .entry))) (writing (now (waiting .entry)) (now (out .entry)) (now (lengths .entry))) (now (words .entry)) (now (datagrams .entry))
+        (record { number = r; datagrams = now (datagrams .exit); words = now (words .exit); written = writing (now (waiting .entry)) (now (out .exit)) (now (lengths .exit)) }) (storeOf 8 (lists (now (records .exit)) (now (room .entry)))) ⌝ }
+{
+    if !words::is_block(words) {
+        return 15;
+    }
+    let left = kcp_flush::turn(
+        words::block(words),
+        sets,
+        current,
+        records,
+        room,
+        acks,
+        waiting,
+        out,
+        lengths,
+    );
+    put_left(left.block, left.datagrams, words);
+    let answer = left.answer;
+    *datagrams = count_in(*datagrams, answer, left.datagrams);
+    answer.number()
+}
+
 // Puts all out that waits or is due, and how many datagrams that was into `datagrams`. 0, or 9, 13 or 15, which leave all.
 pub fn flush(
     words: &mut [u32],
@@ -54,22 +110,21 @@ pub fn flush(
     ensures { λ r. ⌜ WordsFlushed (λ k. flushOf k (lists (now (records .entry)) (now (room .entry))) (now (acks .entry)) (writing (now (waiting .entry)) (now (out .entry)) (now (lengths .entry)))) (lists (now (records .entry)) (now (room .entry))) (writing (now (waiting .entry)) (now (out .entry)) (now (lengths .entry))) (now (words .entry)) (now (datagrams .entry))
         (record { number = r; datagrams = now (datagrams .exit); words = now (words .exit); written = writing (now (waiting .entry)) (now (out .exit)) (now (lengths .exit)) }) (storeOf 8 (lists (now (records .exit)) (now (room .entry)))) ⌝ }
 {
-    if !words::is_block(words) {
+    if !ack_sizes(acks.len(), waiting.len()) {
         return 15;
     }
-    let left = kcp_flush::flush(
-        words::block(words),
+    turn(
+        words,
+        false,
+        0,
         records,
         room,
         acks,
         waiting,
         out,
         lengths,
-    );
-    words::write(left.block, words);
-    let answer = left.answer;
-    *datagrams = count_in(*datagrams, answer, left.datagrams);
-    answer.number()
+        datagrams,
+    )
 }
 
 // Sets the clock, and flushes where a flush is due. 0, or 13 or 15, which leave all, the clock too.
@@ -87,11 +142,12 @@ pub fn update(
     ensures { λ r. ⌜ WordsFlushed (λ k. updateOf k (lists (now (records .entry)) (now (room .entry))) (now (acks .entry)) (writing (now (waiting .entry)) (now (out .entry)) (now (lengths .entry))) current) (lists (now (records .entry)) (now (room .entry))) (writing (now (waiting .entry)) (now (out .entry)) (now (lengths .entry))) (now (words .entry)) (now (datagrams .entry))
         (record { number = r; datagrams = now (datagrams .exit); words = now (words .exit); written = writing (now (waiting .entry)) (now (out .exit)) (now (lengths .exit)) }) (storeOf 8 (lists (now (records .exit)) (now (room .entry)))) ⌝ }
 {
-    if !words::is_block(words) {
+    if !ack_sizes(acks.len(), waiting.len()) {
         return 15;
     }
-    let left = kcp_flush::update(
-        words::block(words),
+    turn(
+        words,
+        true,
         current,
         records,
         room,
@@ -99,11 +155,8 @@ pub fn update(
         waiting,
         out,
         lengths,
-    );
-    words::write(left.block, words);
-    let answer = left.answer;
-    *datagrams = count_in(*datagrams, answer, left.datagrams);
-    answer.number()
+        datagrams,
+    )
 }
 
 // The number of a check's refusal, or 0.

@@ -1,5 +1,5 @@
 -- What flush_ack, flush, update and check promise, at each of their tests; and that their tests give what the functions below them ask. Assumes nothing.
-use Prim.Native.Nat.{ℕ, _*_, _≤_}
+use Prim.Native.Nat.{ℕ, _*_, _≤_, _<_, _^_}
 use native.Mathlib.Omega.{arith}
 use mathlib.Core.Path.{_≡_, refl, sym, ap, _∙_}
 use mathlib.Core.Bool.{Bool, true, false, not, _&&_}
@@ -13,19 +13,22 @@ use Rattle.block.specs.declared.Kcp.{Kcp}
 use Rattle.block.specs.declared.refusal.Refusal.the-variants.{NeedUpdate, BadPool}
 use Rattle.block.specs.Refusals.{numberOfAnswer, valuesOfAnswer}
 use Rattle.block.specs.Parts.{withClock}
-use Rattle.block.specs.Sizes.{AckSizes, pairs}
+use Rattle.block.specs.Sizes.{AckSizes, ackSizes, pairs}
 use Rattle.block.specs.WellFormed.{ownNumbers, OwnNumbers, ackLent}
 use Rattle.block.proofs.Exact.{Exactly, exactly-both, own-numbers, acks-exactly}
 use Rattle.block.proofs.Together.{goes, stops}
 use Rattle.transmit.specs.Fits.{sendLent, SendLent, sendFits}
 use Rattle.transmit.proofs.Exact.{lent-exactly, sound-of, exactly}
+use Rattle.flushing.specs.declared.clock.Tick.{Tick}
 use Rattle.flushing.specs.Clocks.{ticked}
 use Rattle.flushing.specs.Rules.{flushedAck, flushed}
 use Rattle.packing.specs.FlushAck.{Writing}
-use Rattle.output.specs.Memory.{outgoing, Out, unsent, FlushOut, flushAckAt, flushAt, updateAt, checkAt}
+use Rattle.output.specs.Memory.{outgoing, Out, unsent, FlushOut, flushAckAt, flushAt, updateAt, turnAt, checkAt}
+use Rattle.output.proofs.Updates.{update-turn, flush-turn}
+use Rattle.output.proofs.Keeps.{Keeps, either, keeps-all, turn-keeps}
 use Rattle.kcp_flush.specs.declared.Wait.{Wait}
 use Rattle.kcp_flush.specs.declared.Wait.the-variants.{Is, Refused}
-use Rattle.kcp_flush.specs.Calls.{ackFits, flushFits, flushAckOf, ackExceeds, FlushesAck, unflushed, flushExceeds, flushOf, Flushes, updateOf, Updates, numberOfWait, valuesOfWait, checkOf, Checks}
+use Rattle.kcp_flush.specs.Calls.{ackFits, flushFits, flushAckOf, ackExceeds, FlushesAck, unflushed, flushExceeds, flushOf, Flushes, updateOf, Updates, turnOf, tickOf, numberOfWait, valuesOfWait, checkOf, Checks}
 
 -- a choice between two of which f tells the same
 either-way : {A B : Type 0} (f : A → B) (t : Bool) (a b : A) {x : B} → f a ≡ x → f b ≡ x → f (pick t a b) ≡ x
@@ -71,19 +74,26 @@ module _ (k : Kcp) (acks waiting : List ℕ) {t : Bool} (own : t ≡ ownNumbers 
   unfolding ackFits
   by-acks h e = e ∙ goes _ (sym own ∙ not-false t h)
 
-  module _ (snd : Lists) where
-    pub no-own : not t ≡ true → false ≡ flushFits k snd acks waiting
-    unfolding flushFits
-    no-own h = stops _ (sym own ∙ not-true t h)
+together : (a b c : Bool) → (a && (b && c)) ≡ ((a && b) && c)
+together true b c = refl
+together false b c = refl
 
-    module _ (passes : not t ≡ false) {u : Bool} (sent : u ≡ sendLent (k .sender) snd) where
-      pub no-send : not u ≡ true → false ≡ flushFits k snd acks waiting
-      unfolding flushFits
-      no-send h = stops _ (sym sent ∙ not-true u h) ∙ goes _ (sym own ∙ not-false t passes)
+never : (a : Bool) → (a && false) ≡ false
+never true = refl
+never false = refl
 
-      pub by-both : not u ≡ false → {r : Bool} → r ≡ ackLent (k .acklist) acks waiting → r ≡ flushFits k snd acks waiting
-      unfolding flushFits
-      by-both h e = e ∙ goes _ (sym sent ∙ not-false u h) ∙ goes _ (sym own ∙ not-false t passes)
+-- u tells whether they and the send memory fit
+module _ (k : Kcp) (acks waiting : List ℕ) (snd : Lists) {t u : Bool} (own : t ≡ ownNumbers k) (sent : u ≡ (t && sendLent (k .sender) snd)) where
+  both : u ≡ (ownNumbers k && sendLent (k .sender) snd)
+  both = sent ∙ ap (λ (x : Bool). x && sendLent (k .sender) snd) own
+
+  pub no-send : not u ≡ true → false ≡ flushFits k snd acks waiting
+  unfolding flushFits
+  no-send h = stops _ (sym both ∙ not-true u h) ∙ sym (together (ownNumbers k) (sendLent (k .sender) snd) (ackLent (k .acklist) acks waiting))
+
+  pub by-both : not u ≡ false → {r : Bool} → r ≡ ackLent (k .acklist) acks waiting → r ≡ flushFits k snd acks waiting
+  unfolding flushFits
+  by-both h e = e ∙ goes _ (sym both ∙ not-false u h) ∙ sym (together (ownNumbers k) (sendLent (k .sender) snd) (ackLent (k .acklist) acks waiting))
 
 -- ---- flush_ack
 
@@ -164,37 +174,84 @@ module _ (k : Kcp) (snd : Lists) (acks : List ℕ) (w : Writing) where
     update-promise : {o : FlushOut} → o ≡ updateOf k snd acks w current → Updates k snd acks w current o
     update-promise e = record { is = e; refusal = ap numberBy e ∙ update-number; values = ap valuesBy e ∙ update-values }
 
-  -- t tells whether block and memory fit
-  module _ {t : Bool} (tested : t ≡ well) where
-    pub flush-bad : not t ≡ true → Flushes k snd acks w (unflushed k snd w BadPool)
-    unfolding flushOf
-    flush-bad h = flush-promise (sym (pick-false _ _ (sym tested ∙ not-true t h)))
+  -- the two by one function
+  pub flush-by : (current : ℕ) {o : FlushOut} → o ≡ turnOf k snd acks w false current → Flushes k snd acks w o
+  unfolding pick
+  flush-by current e = flush-promise e
 
-    pub update-bad : (current : ℕ) → not t ≡ true → Updates k snd acks w current (unflushed k snd w BadPool)
-    unfolding updateOf
-    update-bad current h = update-promise current (sym (pick-false _ _ (sym tested ∙ not-true t h)))
+  pub update-by : (current : ℕ) {o : FlushOut} → o ≡ turnOf k snd acks w true current → Updates k snd acks w current o
+  unfolding pick
+  update-by current e = update-promise current e
+
+  asks : well ≡ true → OwnNumbers k × ((2 * k .acklist .acks ≤ length acks) × ((length (w .waiting) ≡ 1500) × Sound 8 (k .sender .ring) (storeOf 8 snd)))
+  asks h =
+      let f = flush-exactly k acks (w .waiting) snd .holds h in
+      let p = paired (f .1 .1 .0) (f .1 .1 .1) in
+      (f .0, (p .0, (p .1, sound-of {k = k} {l = snd} (record { own = f .0; lent = f .1 .0 }))))
+
+  -- what a turn leaves as it was
+  module _ (next : k .sender .«snd_nxt» < 2 ^ 32) where
+    by-tick : (t : Tick) → t .clock .interval ≡ k .clock .interval → well ≡ true → Keeps k (turnAt t k (storeOf 8 snd) acks w)
+    by-tick t e h =
+        let a = asks h in
+        let full = a .1 .1 .0 in
+        let most = a .0 .acklist .waiting in
+        turn-keeps t k (storeOf 8 snd) acks w e (a .1 .1 .1) (omega arith) next
+
+    update-kept : (current : ℕ) → Keeps k (updateOf k snd acks w current)
+    unfolding updateOf ticked
+    update-kept current =
+        either (Keeps k) well (λ h. rw (update-turn k (storeOf 8 snd) acks w current) (by-tick (ticked (k .clock) current) refl h)) (λ h. keeps-all k w BadPool (storeOf 8 snd))
+
+    flush-kept : Keeps k (flushOf k snd acks w)
+    unfolding flushOf
+    flush-kept =
+        either (Keeps k) well
+        (λ h. either (Keeps k) (k .clock .updated) (λ u. rw (flush-turn k (storeOf 8 snd) acks w) (by-tick (record { clock = k .clock; flushes = true }) refl h)) (λ u. keeps-all k w NeedUpdate (storeOf 8 snd)))
+        (λ h. keeps-all k w BadPool (storeOf 8 snd))
+
+    pub turn-kept : (sets : Bool) (current : ℕ) → Keeps k (turnOf k snd acks w sets current)
+    turn-kept sets current = either (Keeps k) sets (λ e. update-kept current) (λ e. flush-kept)
+
+  -- they do not fit, or the ack memory is of no size
+  turn-unfit : (sets : Bool) (current : ℕ) → well ≡ false → unflushed k snd w BadPool ≡ turnOf k snd acks w sets current
+  unfolding flushOf updateOf
+  turn-unfit sets current h = sym (either-way (λ (o : FlushOut). o) sets _ _ (pick-false _ _ h) (pick-false _ _ h))
+
+  pub turn-unsized : (sets : Bool) (current : ℕ) → ackSizes (length acks) (length (w .waiting)) ≡ false → unflushed k snd w BadPool ≡ turnOf k snd acks w sets current
+  unfolding flushFits ackLent
+  turn-unsized sets current z =
+      turn-unfit sets current
+      (together (ownNumbers k) (sendLent (k .sender) snd) (ackLent (k .acklist) acks (w .waiting)) ∙ rw z (never (ownNumbers k && sendLent (k .sender) snd)))
+
+  -- t tells whether block and memory fit
+  module _ (sets : Bool) (current : ℕ) {t : Bool} (tested : t ≡ well) where
+    pub turn-bad : not t ≡ true → unflushed k snd w BadPool ≡ turnOf k snd acks w sets current
+    turn-bad h = turn-unfit sets current (sym tested ∙ not-true t h)
 
     module _ (passes : not t ≡ false) where
       all-well : well ≡ true
       all-well = sym tested ∙ not-false t passes
 
-      pub flush-asks : OwnNumbers k × ((2 * k .acklist .acks ≤ length acks) × ((length (w .waiting) ≡ 1500) × Sound 8 (k .sender .ring) (storeOf 8 snd)))
-      flush-asks =
-          let f = flush-exactly k acks (w .waiting) snd .holds all-well in
-          let p = paired (f .1 .1 .0) (f .1 .1 .1) in
-          (f .0, (p .0, (p .1, sound-of {k = k} {l = snd} (record { own = f .0; lent = f .1 .0 }))))
+      pub turn-asks : OwnNumbers k × ((2 * k .acklist .acks ≤ length acks) × ((length (w .waiting) ≡ 1500) × Sound 8 (k .sender .ring) (storeOf 8 snd)))
+      turn-asks = asks all-well
 
-      pub flush-early : not (k .clock .updated) ≡ true → Flushes k snd acks w (unflushed k snd w NeedUpdate)
-      unfolding flushOf
-      flush-early h = flush-promise (sym (pick-true _ _ all-well ∙ pick-false _ _ (not-true (k .clock .updated) h)))
+      pub turn-early : {e : Bool} → e ≡ (not sets && not (k .clock .updated)) → e ≡ true → unflushed k snd w NeedUpdate ≡ turnOf k snd acks w sets current
+      unfolding flushOf pick
+      turn-early d h = of sets (sym d ∙ h)
+        where
+          of : (s : Bool) → (not s && not (k .clock .updated)) ≡ true → unflushed k snd w NeedUpdate ≡ turnOf k snd acks w s current
+          of true e = cc
+          of false e = sym (pick-true _ _ all-well ∙ pick-false _ _ (not-true (k .clock .updated) e))
 
-      pub flush-done : not (k .clock .updated) ≡ false → {o : FlushOut} → o ≡ flushAt k k (storeOf 8 snd) acks w → Flushes k snd acks w o
-      unfolding flushOf
-      flush-done h e = flush-promise (e ∙ sym (pick-true _ _ all-well ∙ pick-true _ _ (not-false (k .clock .updated) h)))
-
-      pub update-done : (current : ℕ) {o : FlushOut} → o ≡ updateAt current k (storeOf 8 snd) acks w → Updates k snd acks w current o
-      unfolding updateOf
-      update-done current e = update-promise current (e ∙ sym (pick-true _ _ all-well))
+      pub turn-done : {e : Bool} → e ≡ (not sets && not (k .clock .updated)) → e ≡ false → {o : FlushOut} {c : Tick} → c ≡ tickOf (k .clock) sets current → o ≡ turnAt c k (storeOf 8 snd) acks w
+          → o ≡ turnOf k snd acks w sets current
+      unfolding flushOf updateOf pick
+      turn-done d h {o} f g = of sets (sym d ∙ h) (g ∙ ap (λ (c : Tick). turnAt c k (storeOf 8 snd) acks w) f)
+        where
+          of : (s : Bool) → (not s && not (k .clock .updated)) ≡ false → o ≡ turnAt (tickOf (k .clock) s current) k (storeOf 8 snd) acks w → o ≡ turnOf k snd acks w s current
+          of true e g = g ∙ sym (update-turn k (storeOf 8 snd) acks w current) ∙ sym (pick-true _ _ all-well)
+          of false e g = g ∙ sym (flush-turn k (storeOf 8 snd) acks w) ∙ sym (pick-true _ _ all-well ∙ pick-true _ _ (not-false (k .clock .updated) e))
 
 -- ---- check
 

@@ -3,19 +3,21 @@
 -- update both. Assumes nothing.
 use Prim.Native.Nat.{ℕ}
 use mathlib.Core.Path.{_≡_}
-use mathlib.Core.Bool.{Bool, _&&_}
+use mathlib.Core.Bool.{Bool, true, _&&_}
 use mathlib.Core.List.{List, [], map}
 use lib.ListN.{length}
 use Rattle.serial.specs.Branch.{pick}
 use Rattle.ring.specs.Lists.{Lists}
 use Rattle.snd_ring.specs.Store.{Store, storeOf}
 use Rattle.block.specs.declared.Kcp.{Kcp}
+use Rattle.block.specs.declared.clock.Clock.{Clock}
 use Rattle.block.specs.declared.refusal.Refusal.{Refusal}
 use Rattle.block.specs.declared.refusal.Refusal.the-variants.{NeedUpdate, BadPool}
 use Rattle.block.specs.Refusals.{numberOf, valuesOf, numberOfAnswer, valuesOfAnswer}
 use Rattle.block.specs.Parts.{withClock}
 use Rattle.block.specs.WellFormed.{ownNumbers, OwnNumbers, ackLent}
 use Rattle.transmit.specs.Fits.{sendLent, sendFits}
+use Rattle.flushing.specs.declared.clock.Tick.{Tick}
 use Rattle.flushing.specs.Clocks.{ticked}
 use Rattle.flushing.specs.Rules.{exceeds, flushedAck, flushed}
 use Rattle.packing.specs.FlushAck.{Writing, roomOf}
@@ -74,6 +76,14 @@ module _ (k : Kcp) (snd : Lists) (acks : List ℕ) (w : Writing) where
     pub refusal : numberOfAnswer (o .out .answer)
         ≡ pick (flushFits k snd acks (w .waiting)) (pick (ticked (k .clock) current .flushes) (pick (flushExceeds (withClock k (ticked (k .clock) current .clock)) snd acks w) 13 0) 0) 15
     pub values : valuesOfAnswer (o .out .answer) ≡ []
+
+  -- both as one: an update to that time, or a flush
+  abbrev pub turnOf : Bool → ℕ → FlushOut
+  turnOf sets current = pick sets (updateOf current) flushOf
+
+-- its clock: set, or as it is
+abbrev pub tickOf : Clock → Bool → ℕ → Tick
+tickOf c sets current = pick sets (ticked c current) (record { clock = c; flushes = true })
 
 -- ---- check
 

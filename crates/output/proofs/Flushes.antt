@@ -18,14 +18,15 @@ use Rattle.block.specs.declared.refusal.Refusal.the-variants.{OutTooSmall}
 use Rattle.flushing.specs.declared.due.Tally.{Tally}
 use Rattle.flushing.specs.Pack.{flat, sumOf, packAllSizes}
 use Rattle.flushing.specs.Rules.{Outgoing, exceeds, flushed}
-use Rattle.flushing.proofs.Packing.{length-flat, all-sum}
+use Rattle.flushing.proofs.Packing.{length-flat, all-sum, all-none}
 use Rattle.packing.specs.declared.packer.Packer.{Packer}
 use Rattle.packing.specs.Packer.{holding, sized, closed}
 use Rattle.packing.specs.FlushAck.{Writing, writing, roomOf}
 use Rattle.packing.proofs.Laying.{put-none}
 use Rattle.packing.proofs.Turns.{closed-start, closed-count}
-use Rattle.output.specs.Memory.{outgoing, unsent, sizesAt, piecesAt, movedAt, flownStore, tallyAt, Rear, writtenAt, FlushFits, settledBy, afterFlush, FlushOut, flushAt}
+use Rattle.output.specs.Memory.{outgoing, unsent, sizesAt, piecesAt, movedAt, flownStore, tallyAt, uncounted, Rear, writtenAt, FlushFits, settledBy, afterFlush, FlushOut, flushAt}
 use Rattle.output.proofs.Found.{sizes-found, bytes-found, lengths-found, settled-found}
+use Rattle.output.proofs.Still.{idle-written}
 
 either-true : (a : Bool) {c : Bool} → c ≡ true → (a || c) ≡ true
 either-true true e = refl
@@ -91,6 +92,14 @@ module _ (k b : Kcp) (m : Store) (acks waiting out lengths : List ℕ) (o : Soun
           cuts = let c = count-is ∙ ap length lengths-are in rw (sizes-found b m acks waiting o) (omega arith);
         }
 
+    -- nothing goes out
+    module _ (nothing : p .start ≡ 0) where
+      none : held + sumOf (sizesAt b m) ≡ 0
+      none = sym (all-sum mtu held (sizesAt b m)) ∙ ap sumOf (sym lengths-are) ∙ sym start-is ∙ nothing
+
+      no-datagram : p .count ≡ 0
+      no-datagram = count-is ∙ ap length (lengths-are ∙ all-none mtu held (sizesAt b m) none)
+
     -- s, t and so on are what the writing left, and blk the block after it
     pub flush-done : {s : Sender} {t : Tally} {st : Store} {to ls : List ℕ} → _≡_ {A = Rear} (record { sender = s; tally = t; store = st; out = to; lengths = ls }) (writtenAt b m acks waiting out lengths)
         → {blk : Kcp} → blk ≡ settledBy b s t
@@ -115,3 +124,8 @@ module _ (k b : Kcp) (m : Store) (acks waiting out lengths : List ℕ) (o : Soun
         })
         (sym (put-none waiting 0))
         ∙ sym (pick-false _ _ fits))
+
+    -- blk is the block after a flush of which nothing goes out
+    pub flush-idle : p .start ≡ 0 → b .sender .«snd_nxt» < 2 ^ 32 → {blk : Kcp} → blk ≡ settledBy b (b .sender) (uncounted b)
+        → _≡_ {A = FlushOut} (record { out = record { block = blk; answer = Done; datagrams = 0; written = w }; store = m }) (flushAt k b m acks w)
+    flush-idle z next y = rw (← no-datagram z) (flush-done (idle-written b m acks waiting o next (none z) out lengths) y)

@@ -9,7 +9,6 @@ use Rattle.snd_ring.specs.Store.{Store, Sound}
 use Rattle.block.specs.declared.Kcp.{Kcp}
 use Rattle.sending.specs.Rules.{Sending, withFlying}
 use Rattle.transmit.specs.Memory.{seen}
-use Rattle.flushing.specs.declared.due.Tally.{Tally}
 use Rattle.flushing.specs.Pack.{flat, packAllSizes}
 use Rattle.flushing.specs.Pieces.{Piece, pieceBytes, ackPieces, probePieces, duePieces, tallied, sentOut}
 use Rattle.flushing.specs.Rules.{Outgoing, movedOut, sent, tally, piecesOf, flushed}
@@ -21,7 +20,7 @@ use Rattle.packing.proofs.Fronts.{front-sizes, front-rule}
 use Rattle.flight.specs.Memory.{launchedSender, launchedAt, flightPlaces, waitingPlaces, piecesOver, sizesOver, freshSizes, tallyOver}
 use Rattle.flight.proofs.Seen.{seen-moved, seen-flown, leaving-few, launched-sound}
 use Rattle.flight.proofs.Out.{pieces-seen, sizes-seen, tally-seen, sizes-launched}
-use Rattle.output.specs.Memory.{outgoing, toldOf, planOf, sizesAt, movedAt, flownStore, afterFlush, piecesAt, tallyAt, settledBy}
+use Rattle.output.specs.Memory.{outgoing, toldOf, planOf, sizesAt, movedAt, flownStore, afterFlush, piecesAt, uncounted, tallyAt, settledBy}
 
 module _ (b : Kcp) (m : Store) (acks waiting : List ℕ) (o : Sound 8 (b .sender .ring) m) where
   abbrev asked : Outgoing
@@ -76,14 +75,11 @@ module _ (b : Kcp) (m : Store) (acks waiting : List ℕ) (o : Sound 8 (b .sender
 
   -- ---- what is counted
 
-  abbrev uncounted : Tally
-  uncounted = record { xmit = b .sender .xmit; dead = b .sender .dead; lost = false; change = false }
-
   pub tally-found : tallyAt b m ≡ tally asked
   unfolding outgoing
   tally-found =
-      tally-seen (movedAt b m .sender) (movedAt b m .store) moved-sound (b .settings .«dead_link») (planOf b .pace) uncounted
-      ∙ ap (λ (s : Sending). tallied (b .settings .«dead_link») (planOf b .pace) (s .flying) uncounted) moved-seen
+      tally-seen (movedAt b m .sender) (movedAt b m .store) moved-sound (b .settings .«dead_link») (planOf b .pace) (uncounted b)
+      ∙ ap (λ (s : Sending). tallied (b .settings .«dead_link») (planOf b .pace) (s .flying) (uncounted b)) moved-seen
 
   -- ---- THE LAW: what is seen after the flush is what the rule leaves
 

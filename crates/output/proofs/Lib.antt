@@ -3,5 +3,7 @@ pub mod Found
 mod Sizes
 mod Rears
 mod Whole
+mod Still
 mod Flushes
-mod Updates
+pub mod Updates
+pub mod Keeps

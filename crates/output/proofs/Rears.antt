@@ -2,7 +2,6 @@
 use Prim.Native.Nat.{ℕ, _+_, _≤_, _<_, _^_}
 use native.Mathlib.Omega.{arith}
 use mathlib.Core.Path.{_≡_, refl, sym, ap, _∙_, subst}
-use mathlib.Core.Bool.{false}
 use mathlib.Core.List.{List, [], map, _++_}
 use lib.ListN.{length, length-append}
 use Rattle.ring.specs.Lists.{lists}
@@ -24,7 +23,7 @@ use Rattle.flight.specs.Memory.{flightPlaces, launchedAt, piecesOver}
 use Rattle.flight.proofs.Seen.{flight-below, flight-fit}
 use Rattle.due.proofs.Writing.{pieces-most}
 use Rattle.due.specs.Pass.{Pass, pass, passOver, Roomy}
-use Rattle.output.specs.Memory.{toldOf, planOf, movedAt, flownStore, segmentsOf, tallyAt, Rear, rearAt, RearFits}
+use Rattle.output.specs.Memory.{toldOf, planOf, movedAt, flownStore, segmentsOf, uncounted, tallyAt, Rear, rearAt, RearFits}
 use Rattle.output.proofs.Found.{few, moved-sound}
 
 module _ (b : Kcp) (a room : List ℕ) (o : Sound 8 (b .sender .ring) (storeOf 8 (lists a room))) where
@@ -37,9 +36,6 @@ module _ (b : Kcp) (a room : List ℕ) (o : Sound 8 (b .sender .ring) (storeOf 8
   -- ---- s and n are the sending side and the memory once segments have left the queue
 
   module _ {s : Sender} {n : Store} (e : side s n ≡ movedAt b m) where
-    abbrev uncounted : Tally
-    uncounted = record { xmit = b .sender .xmit; dead = b .sender .dead; lost = false; change = false }
-
     pub write-sound : Sound 8 (s .ring) n
     write-sound = subst (λ (x : Side). Sound 8 (x .sender .ring) (x .store)) (sym e) (moved-sound b m [] [] o)
 
@@ -62,9 +58,9 @@ module _ (b : Kcp) (a room : List ℕ) (o : Sound 8 (b .sender .ring) (storeOf 8
 
       -- ---- x is what the write pass left
 
-      module _ (small : b .settings .mtu ≤ 1500) {st : Store} {to ls : List ℕ} {pk : Packer} {t : Tally} (w : pass st to ls pk t ≡ passOver (toldOf b) (planOf b .pace) (b .settings .«dead_link») (b .settings .mtu) (flightPlaces (s .ring) n) (pass n out lengths p uncounted)) where
-        whole : pass st to ls pk t ≡ passOver (toldOf b) (planOf b .pace) (b .settings .«dead_link») (b .settings .mtu) (flightPlaces (movedAt b m .sender .ring) (movedAt b m .store)) (pass (movedAt b m .store) out lengths p uncounted)
-        whole = w ∙ ap (λ (y : Side). passOver (toldOf b) (planOf b .pace) (b .settings .«dead_link») (b .settings .mtu) (flightPlaces (y .sender .ring) (y .store)) (pass (y .store) out lengths p uncounted)) e
+      module _ (small : b .settings .mtu ≤ 1500) {st : Store} {to ls : List ℕ} {pk : Packer} {t : Tally} (w : pass st to ls pk t ≡ passOver (toldOf b) (planOf b .pace) (b .settings .«dead_link») (b .settings .mtu) (flightPlaces (s .ring) n) (pass n out lengths p (uncounted b))) where
+        whole : pass st to ls pk t ≡ passOver (toldOf b) (planOf b .pace) (b .settings .«dead_link») (b .settings .mtu) (flightPlaces (movedAt b m .sender .ring) (movedAt b m .store)) (pass (movedAt b m .store) out lengths p (uncounted b))
+        whole = w ∙ ap (λ (y : Side). passOver (toldOf b) (planOf b .pace) (b .settings .«dead_link») (b .settings .mtu) (flightPlaces (y .sender .ring) (y .store)) (pass (y .store) out lengths p (uncounted b))) e
 
         left : pass st to ls pk t ≡ pass (flownStore b m) (put out (p .start + p .used) (flat (segmentsOf b m))) (put lengths (p .count) (packSizes (b .settings .mtu) (p .used) (map length (segmentsOf b m)) .0))
             (sized (b .settings .mtu) p (map length (segmentsOf b m))) (tallyAt b m)

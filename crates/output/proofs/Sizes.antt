@@ -1,7 +1,7 @@
 -- The sizes of a flush, stage by stage, and that 13 is decided by them. Assumes nothing.
 use Prim.Native.Nat.{ℕ, _+_, _/_, _≤_}
 use native.Mathlib.Omega.{arith}
-use mathlib.Core.Path.{_≡_, refl, ap, _∙_}
+use mathlib.Core.Path.{_≡_, refl, sym, ap, _∙_}
 use mathlib.Core.List.{List, [], _++_}
 use lib.ListN.{length}
 use Rattle.ring.specs.Lists.{lists}
@@ -10,8 +10,10 @@ use Rattle.block.specs.declared.Kcp.{Kcp}
 use Rattle.packing.specs.declared.packer.Packer.{Packer}
 use Rattle.packing.specs.Packer.{holding, sized, closed}
 use Rattle.packing.specs.Front.{frontSizes}
-use Rattle.packing.proofs.Turns.{sized-append}
+use Rattle.packing.proofs.Turns.{sized-none, sized-append}
 use Rattle.flight.specs.Memory.{flightPlaces, waitingPlaces, sizesOver, freshSizes}
+use Rattle.flight.proofs.Places.{places-none}
+use Rattle.flight.proofs.Out.{sizes-none}
 use Rattle.due.specs.Pass.{Rung}
 use Rattle.due.proofs.Sizing.{rung-numbers}
 use Rattle.output.specs.Memory.{planOf, sizesAt}
@@ -36,6 +38,17 @@ pub sizes-staged : (b : Kcp) (a : List ℕ) {f g h r : Packer} (room : List ℕ)
     → r ≡ closed h → r ≡ closed (sized (b .settings .mtu) (holding (b .acklist .waiting)) (sizesAt b (storeOf 8 (lists a room))))
 unfolding sizesAt
 sizes-staged b a {f} {g} {h} room x y z e = e ∙ ap closed (staged (b .settings .mtu) (holding (b .acklist .waiting)) f g h _ _ _ x y z)
+
+-- nothing is in flight, and nothing leaves
+pub sizes-front : (b : Kcp) (a : List ℕ) {f r : Packer} (room : List ℕ) → b .sender .ring .reach ≡ 0 → planOf b .leavers ≡ 0
+    → f ≡ sized (b .settings .mtu) (holding (b .acklist .waiting)) (frontSizes (b .acklist .acks) (planOf b .probe .bits))
+    → r ≡ closed f → r ≡ closed (sized (b .settings .mtu) (holding (b .acklist .waiting)) (sizesAt b (storeOf 8 (lists a room))))
+sizes-front b a {f} room h k x e =
+    let m = storeOf 8 (lists a room) in
+    sizes-staged b a {g = f} {h = f} room x
+    (rw (h, places-none (length (m .marks)) (b .sender .ring .start) 0, sizes-none (planOf b .pace) m) (sym (sized-none (b .settings .mtu) f)))
+    (rw (k, places-none (length (m .marks)) (b .sender .ring .start) (b .sender .ring .reach)) (sym (sized-none (b .settings .mtu) f)))
+    e
 
 -- all that was packed has gone out
 pub closed-sum : (p : Packer) {r : Packer} → r ≡ closed p → r .start ≡ p .start + p .used

@@ -18,6 +18,7 @@ use Rattle.block.specs.declared.refusal.Refusal.{Refusal}
 use Rattle.block.specs.declared.refusal.Refusal.the-variants.{NeedUpdate, OutTooSmall}
 use Rattle.block.specs.Parts.{withClock, withCongestion, withProbe, withAckList, withSender}
 use Rattle.transmit.specs.Memory.{seen, Side}
+use Rattle.flushing.specs.declared.clock.Tick.{Tick}
 use Rattle.flushing.specs.declared.due.Tally.{Tally}
 use Rattle.flushing.specs.declared.headers.Told.{Told}
 use Rattle.flushing.specs.Pack.{flat, pack, packAllSizes}
@@ -128,10 +129,13 @@ pub record Rear : Type 0 where
   pub out : List ℕ
   pub lengths : List ℕ
 
+-- before anything is counted
+abbrev pub uncounted : Kcp → Tally
+uncounted k = record { xmit = k .sender .xmit; dead = k .sender .dead; lost = false; change = false }
+
 abbrev pub tallyAt : Kcp → Store → Tally
 tallyAt k m =
-    tallyOver (k .settings .«dead_link») (planOf k .pace) (flightPlaces (movedAt k m .sender .ring) (movedAt k m .store)) (movedAt k m .store)
-    (record { xmit = k .sender .xmit; dead = k .sender .dead; lost = false; change = false })
+    tallyOver (k .settings .«dead_link») (planOf k .pace) (flightPlaces (movedAt k m .sender .ring) (movedAt k m .store)) (movedAt k m .store) (uncounted k)
 
 abbrev pub rearAt : Kcp → Store → List ℕ → List ℕ → Packer → Rear
 rearAt k m out lengths p = record {
@@ -201,6 +205,12 @@ flushAt k b m acks w =
 unfoldable pub updateAt : ℕ → Kcp → Store → List ℕ → Writing → FlushOut
 updateAt current k m acks w =
     let t = ticked (k .clock) current in
+    let b = withClock k (t .clock) in
+    pick (t .flushes) (flushAt k b m acks w) (record { out = record { block = b; answer = Done; datagrams = 0; written = w }; store = m })
+
+-- the same with a clock that was set before: a flush is a turn that runs with the clock as it is
+unfoldable pub turnAt : Tick → Kcp → Store → List ℕ → Writing → FlushOut
+turnAt t k m acks w =
     let b = withClock k (t .clock) in
     pick (t .flushes) (flushAt k b m acks w) (record { out = record { block = b; answer = Done; datagrams = 0; written = w }; store = m })
 

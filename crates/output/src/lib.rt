@@ -1,24 +1,24 @@
-// The way out in lent memory: flush_ack, flush, update and check. Each requires that the memory is well formed; the public calls test that and then act.
+// The way out in lent memory: flush_ack, flush and update, which are one turn, and check. Each requires that the memory is well formed; the public calls test that and then act.
 ghost use mathlib.Core.Path.{_≡_};
 ghost use mathlib.Core.List.{List};
 ghost use Rattle.block.specs.WellFormed.{SettingsFit, ProbeFits, AckListFits, OwnNumbers};
 ghost use Prim.Native.Nat.{ℕ, _*_, _≤_, _<_, _^_};
 ghost use lib.ListN.{length};
-ghost use Rattle.block.specs.declared.refusal.Answer.the-variants.{Refused as Unsent};
+ghost use Rattle.block.specs.declared.refusal.Answer.the-variants.{Done as Finished, Refused as Unsent};
 ghost use Rattle.block.specs.declared.refusal.Refusal.the-variants.{OutTooSmall};
 ghost use Rattle.ring.specs.Lists.{lists};
 ghost use Rattle.snd_ring.specs.Store.{storeOf, Sound};
 ghost use Rattle.packing.specs.Packer.{holding, sized, closed};
 ghost use Rattle.packing.specs.FlushAck.{writing};
 ghost use Rattle.due.specs.Pass.{Rung};
-ghost use Rattle.output.specs.Memory.{toldOf, planOf, flushAckAt, flushAt, updateAt, checkAt, sizesAt, settledBy, rearAt, RearFits, writtenAt, FlushFits};
+ghost use Rattle.output.specs.Memory.{toldOf, planOf, flushAckAt, flushAt, turnAt, checkAt, sizesAt, settledBy, rearAt, RearFits, uncounted, writtenAt, FlushFits};
 use block::Kcp;
 use block::acklist::AckList;
 use block::probe::Probe;
 use block::refusal::Answer;
 use block::refusal::Refusal;
 use block::sender::Sender;
-use flushing::clock::ticked;
+use flushing::clock::Tick;
 use flushing::clock::tm_flush;
 use flushing::clock::wait_of;
 use flushing::due::Pace;
@@ -165,6 +165,11 @@ fn flush_sizes(block: Kcp, plan: Plan, records: &[u32]) -> Packer
         acklist.acks as usize,
         probe.bits,
     );
+    if ring.reach == 0 {
+        if plan.leavers == 0 {
+            return front.close();
+        }
+    }
     let flying = due::due_sizes(ring, records, plan.pace, mtu, front);
     let all = due::fresh_sizes(ring, records, plan.leavers, mtu, flying);
     all.close()
@@ -310,9 +315,28 @@ fn flush_write(
     rear_put(block, plan, records, room, out, lengths, front)
 }
 
+// A flush of which nothing goes out: nothing leaves the queue, and no memory changes.
+fn idle(block: Kcp, plan: Plan) -> Out
+    requires { ⌜ plan ≡ planOf block ⌝ }
+    ensures { λ r. ⌜ r ≡ record { block = settledBy block (block .sender) (uncounted block); answer = Finished; datagrams = 0 } ⌝ }
+{
+    let sender = block.sender;
+    let none = Tally {
+        xmit: sender.xmit,
+        dead: sender.dead,
+        lost: false,
+        change: false,
+    };
+    Out {
+        block: settled(block, plan, sender, none),
+        answer: Answer::Done,
+        datagrams: 0,
+    }
+}
+
 // Puts out what waits, the acks, the probes and the segments that are fresh or to be resent, of the block as it is now. Refused by 13, which leaves the
 // block of before and all memory.
-pub fn flush(
+fn flush(
     before: Kcp,
     block: Kcp,
     records: &mut [u32],
@@ -340,6 +364,9 @@ pub fn flush(
     if lengths.len() < sizes.count {
         return too_small(before);
     }
+    if sizes.start == 0 {
+        return idle(block, plan);
+    }
     let flown = flush_write(block, plan, records, room, acks, waiting, out, lengths);
     Out {
         block: settled(block, plan, flown.sender, flown.tally),
@@ -348,10 +375,10 @@ pub fn flush(
     }
 }
 
-// Sets the clock, and flushes where a flush is due. Refused by 13, which leaves all, the clock too.
-pub fn update(
+// Takes the clock of the tick, and flushes where it says so. Refused by 13, which leaves all, the clock too.
+pub fn turn(
     block: Kcp,
-    current: u32,
+    tick: Tick,
     records: &mut [u32],
     room: &[u8],
     acks: &[u32],
@@ -367,9 +394,8 @@ pub fn update(
       out = record { block = r .block; answer = r .answer; datagrams = r .datagrams; written = writing (now (waiting .entry)) (now (out .exit)) (now (lengths .exit)) };
       store = storeOf 8 (lists (now (records .exit)) (now (room .entry)));
     }
-        ≡ updateAt current block (storeOf 8 (lists (now (records .entry)) (now (room .entry)))) (now (acks .entry)) (writing (now (waiting .entry)) (now (out .entry)) (now (lengths .entry))) ⌝ }
+        ≡ turnAt tick block (storeOf 8 (lists (now (records .entry)) (now (room .entry)))) (now (acks .entry)) (writing (now (waiting .entry)) (now (out .entry)) (now (lengths .entry))) ⌝ }
 {
-    let tick = ticked(block.clock, current);
     let clock = tick.clock;
     let now = block.with_clock(clock);
     if !tick.flushes {
@@ -382,13 +408,17 @@ pub fn update(
     flush(block, now, records, room, acks, waiting, out, lengths)
 }
 
-// How long until the next update, in milliseconds: until the next flush or the next resend, and at most an interval; 0 before the first update.
+// How long until the next update, in milliseconds: until the next flush or the next resend, and at most an interval; 0 before the first update. The
+// segments are looked at only where they can shorten it.
 pub fn check(block: Kcp, current: u32, records: &[u32], room: &[u8]) -> u32
     requires { ⌜ Sound 8 (block .sender .ring) (storeOf 8 (lists (now records) (now room))) ⌝ }
     ensures { λ r. ⌜ r ≡ checkAt current block (storeOf 8 (lists (now (records .entry)) (now (room .entry)))) ⌝ }
 {
     let clock = block.clock;
     let sender = block.sender;
-    let packet = flight::tm_packet(sender.ring, records, current);
-    wait_of(clock.interval, packet, tm_flush(clock, current))
+    let most = wait_of(clock.interval, u32::MAX, tm_flush(clock, current));
+    if most == 0 {
+        return 0;
+    }
+    flight::tm_packet(sender.ring, records, current, most)
 }

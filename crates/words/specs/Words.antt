@@ -129,3 +129,23 @@ withWindows k l = set (set l 5 (pair (k .receiver .«rcv_wnd») (k .receiver .la
 
 unfoldable pub withNodelayWords : Kcp → List ℕ → List ℕ
 withNodelayWords k l = set (set (set (set l 0 (flagsOf k)) 26 (k .estimator .minrto)) 28 (k .clock .interval)) 32 (k .settings .fastresend)
+
+-- flush and update: the flags, the probe, the window of congestion and the clock
+unfoldable pub withProbeWords : Probe → List ℕ → List ℕ
+withProbeWords p l = set (set (set l 3 (p .«probe_wait»)) 15 (p .bits)) 30 (p .«ts_probe»)
+
+unfoldable pub withCwndWords : Congestion → List ℕ → List ℕ
+withCwndWords c l = set (set (set l 20 (pair (c .cwnd) (c .ssthresh))) 21 (c .incr % 4294967296)) 22 (c .incr / 4294967296)
+
+unfoldable pub withClockWords : Clock → List ℕ → List ℕ
+withClockWords c l = set (set l 27 (c .current)) 29 (c .«ts_flush»)
+
+abbrev pub withTurnWords : Kcp → List ℕ → List ℕ
+withTurnWords k l = withClockWords (k .clock) (withCwndWords (k .congestion) (withProbeWords (k .probe) (withFlags k l)))
+
+-- and where something goes out, the ack memory, snd_nxt, xmit and the send ring too
+unfoldable pub withCountWords : Kcp → List ℕ → List ℕ
+withCountWords k l = set (set (set (set l 13 (k .acklist .acks)) 14 (k .acklist .waiting)) 18 (k .sender .«snd_nxt»)) 31 (k .sender .xmit)
+
+abbrev pub withSentWords : Kcp → List ℕ → List ℕ
+withSentWords k l = withSndWords (k .sender .ring) (withCountWords k (withTurnWords k l))

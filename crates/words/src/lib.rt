@@ -4,7 +4,7 @@ ghost use mathlib.Core.Path.{_≡_};
 ghost use mathlib.Core.Bool.{_&&_};
 ghost use Prim.Native.Nat.{_+_, _*_, _/_, _%_, _<_};
 ghost use lib.ListN.{length, set};
-ghost use Rattle.words.specs.Words.{bit, pair, flagsOf, wordsOf, at, low, high, flag, settingsOf, clockOf, estimatorOf, congestionOf, probeOf, receiverOf, acklistOf, senderOf, blockOf, isBlock, withFlags, withMtuWords, withRcvWords, withSndWords, withWindows, withNodelayWords};
+ghost use Rattle.words.specs.Words.{bit, pair, flagsOf, wordsOf, at, low, high, flag, settingsOf, clockOf, estimatorOf, congestionOf, probeOf, receiverOf, acklistOf, senderOf, blockOf, isBlock, withFlags, withMtuWords, withRcvWords, withSndWords, withWindows, withNodelayWords, withProbeWords, withCwndWords, withClockWords, withTurnWords, withCountWords, withSentWords};
 use block::Kcp;
 use block::acklist::AckList;
 use block::clock::Clock;
@@ -350,6 +350,65 @@ pub fn put_windows(block: Kcp, words: &mut [u32])
 {
     words[5] = pair(block.receiver.rcv_wnd, block.receiver.largest);
     words[19] = pair(block.congestion.snd_wnd, block.congestion.rmt_wnd);
+}
+
+// Writes the probe, the window of congestion, and the clock without its interval.
+fn put_probe(probe: Probe, words: &mut [u32])
+    requires { ⌜ length (now words) ≡ 35 ⌝ }
+    ensures { λ _. ⌜ now (words .exit) ≡ withProbeWords probe (now (words .entry)) ⌝ }
+{
+    words[3] = probe.probe_wait;
+    words[15] = probe.bits;
+    words[30] = probe.ts_probe;
+}
+
+fn put_cwnd(congestion: Congestion, words: &mut [u32])
+    requires { ⌜ length (now words) ≡ 35 ⌝ }
+    ensures { λ _. ⌜ now (words .exit) ≡ withCwndWords congestion (now (words .entry)) ⌝ }
+{
+    words[20] = pair(congestion.cwnd, congestion.ssthresh);
+    words[21] = low_half(congestion.incr);
+    words[22] = high_half(congestion.incr);
+}
+
+fn put_clock(clock: Clock, words: &mut [u32])
+    requires { ⌜ length (now words) ≡ 35 ⌝ }
+    ensures { λ _. ⌜ now (words .exit) ≡ withClockWords clock (now (words .entry)) ⌝ }
+{
+    words[27] = clock.current;
+    words[29] = clock.ts_flush;
+}
+
+// Writes the ack memory in use, snd_nxt and xmit.
+fn put_counts(block: Kcp, words: &mut [u32])
+    requires { ⌜ length (now words) ≡ 35 ⌝ }
+    ensures { λ _. ⌜ now (words .exit) ≡ withCountWords block (now (words .entry)) ⌝ }
+{
+    words[13] = block.acklist.acks;
+    words[14] = block.acklist.waiting;
+    words[18] = block.sender.snd_nxt;
+    words[31] = block.sender.xmit;
+}
+
+// Writes what flush and update change where nothing goes out.
+pub fn put_turned(block: Kcp, words: &mut [u32])
+    requires { ⌜ length (now words) ≡ 35 ⌝ }
+    ensures { λ _. ⌜ now (words .exit) ≡ withTurnWords block (now (words .entry)) ⌝ }
+{
+    put_flags(block, words);
+    put_probe(block.probe, words);
+    put_cwnd(block.congestion, words);
+    put_clock(block.clock, words);
+}
+
+// Writes what they change where something does.
+pub fn put_sent(block: Kcp, words: &mut [u32])
+    requires { ⌜ length (now words) ≡ 35 ⌝ }
+    ensures { λ _. ⌜ now (words .exit) ≡ withSentWords block (now (words .entry)) ⌝ }
+{
+    put_turned(block, words);
+    put_counts(block, words);
+    put_snd_ring(block.sender.ring, words);
 }
 
 // Writes one word: the bits of the probe, the conv, rx_minrto, the interval, fastresend or dead_link.

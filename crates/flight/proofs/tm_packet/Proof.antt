@@ -1,5 +1,4 @@
 -- `flight::tm_packet` meets its contract. Assumes nothing.
-use Prim.Native.Nat.{_-_, _^_}
 use Rattle.ring.specs.Lists.{lists}
 use Rattle.snd_ring.specs.Store.{storeOf}
 use Rattle.flight.proofs.Steps.{runs-by, tm-both}
@@ -30,7 +29,7 @@ returns c =
     let a = c .before .before .before .before .before .before .before .args in
     let r = c .before .before .runs-of in
     λ room. rw (runs-by (a .records .now) (c .before .before .before .before .before .slots-in .ensures) room (a .ring .start) 0 (a .ring .reach) (r .ensures))
-    (tm-both (a .current) (storeOf 8 (lists (a .records .now) room)) _ _ (2 ^ 32 - 1) (c .before .tm-run .ensures room) (c .tm-run2 .ensures room))
+    (tm-both (a .current) (storeOf 8 (lists (a .records .now) room)) _ _ (a .tm) (c .before .tm-run .ensures room) (c .tm-run2 .ensures room))
 
 pub tm-packet-spec : {M : Type 1} → statement M
 tm-packet-spec =

@@ -1,40 +1,30 @@
--- `host_flush::update` meets its contract: the law of words that are no block, and of those that are. Assumes nothing.
+-- `host_flush::update` meets its contract: refused by the sizes of the ack memory, or a turn. Assumes nothing.
+use native.Mathlib.Omega.{arith}
+use mathlib.Core.Bool.{true}
+use Rattle.serial.specs.Branch.{pick}
 use Rattle.ring.specs.Lists.{lists}
 use Rattle.packing.specs.FlushAck.{writing}
-use Rattle.words.proofs.Tests.{held-length}
-use Rattle.kcp_flush.specs.Calls.{updateOf}
-use Rattle.host_flush.proofs.Laws.{flush-none, flush-done}
+use Rattle.host_flush.proofs.Laws.{flush-unsized}
 use borrow.Author.Needs.{needs}
 use Rattle.host_flush.proofs.update.Statement.{statement}
 use Rattle.host_flush.proofs.update.Tie as tie
 
-is-block-requires : tie.Need-is-block-requires
-is-block-requires c κs = search needs
+ack-sizes-requires : tie.Need-ack-sizes-requires
+ack-sizes-requires c κs = search needs
+
+returns : tie.Need-returns
+unfolding pick
+returns c =
+    let a = c .before .before .before .before .before .before .before .before .before .args in
+    let l = lists (a .records .now) (a .room .now) in
+    let w = writing (a .waiting .now) (a .out .now) (a .lengths .now) in
+    flush-unsized l (a .acks .now) w true (a .current) (c .before .ack-sizes .ensures) (c .if1 .taken) (a .words .now) (a .datagrams .now) (λ i. omega (arith, c .before .before .before .before .before .before .before .before .slice-known .given i))
+
+turn-requires : tie.Need-turn-requires
+turn-requires c κs = search needs
 
 same-length : tie.Need-same-length
 same-length c = search needs
-
-returns : tie.Need-returns
-returns c =
-    let a = c .before .before .before .before .before .before .before .before .before .before .args in
-    let l = lists (a .records .now) (a .room .now) in
-    let w = writing (a .waiting .now) (a .out .now) (a .lengths .now) in
-    flush-none _ (c .before .is-block .ensures) (c .if1 .taken) (λ k. updateOf k l (a .acks .now) w (a .current)) l w (a .datagrams .now)
-
-block-requires : tie.Need-block-requires
-block-requires c κs = held-length _ (c .before .before .is-block .ensures) (c .before .if1 .left)
-
-update-requires : tie.Need-update-requires
-update-requires c κs = search needs
-
-write-requires : tie.Need-write-requires
-write-requires c κs = held-length _ (c .before .before .before .before .before .before .before .before .before .before .before .before .before .before .is-block .ensures) (c .before .before .before .before .before .before .before .before .before .before .before .before .before .if1 .left)
-
-count-in-requires : tie.Need-count-in-requires
-count-in-requires c κs = search needs
-
-number-requires : tie.Need-number-requires
-number-requires c κs = search needs
 
 same-length-2 : tie.Need-same-length-2
 same-length-2 c = search needs
@@ -45,30 +35,19 @@ same-length-3 c = search needs
 same-length-4 : tie.Need-same-length-4
 same-length-4 c = search needs
 
-same-length-5 : tie.Need-same-length-5
-same-length-5 c = search needs
-
 returns-2 : tie.Need-returns-2
-returns-2 c =
-    let a = c .before .before .before .before .before .before .before .before .before .before .before .before .before .before .before .before .before .before .before .before .before .before .before .before .before .before .before .before .before .args in
-    let l = lists (a .records .now) (a .room .now) in
-    let w = writing (a .waiting .now) (a .out .now) (a .lengths .now) in
-    flush-done _ (c .before .before .before .before .before .before .before .before .before .before .before .before .before .before .before .before .before .before .before .before .is-block .ensures) (c .before .before .before .before .before .before .before .before .before .before .before .before .before .before .before .before .before .before .before .if1 .left) (c .before .before .before .before .before .before .before .before .before .before .before .before .before .before .before .before .before .block .ensures) (λ k. updateOf k l (a .acks .now) w (a .current)) l w (a .datagrams .now) (c .before .before .before .before .before .before .before .before .before .before .before .before .before .update .ensures .is) (c .number .ensures) (c .before .count-in .ensures) (c .before .before .before .before .before .write .ensures)
+unfolding pick
+returns-2 c = c .before .before .before .before .before .before .before .before .turn .ensures
 
 pub update-spec : {M : Type 1} → statement M
 update-spec =
     tie.close
     (tie.spec
-    is-block-requires
-    same-length
+    ack-sizes-requires
     returns
-    block-requires
-    update-requires
-    write-requires
-    count-in-requires
-    number-requires
+    turn-requires
+    same-length
     same-length-2
     same-length-3
     same-length-4
-    same-length-5
     returns-2)

@@ -1,8 +1,9 @@
--- `output::flush` meets its contract: refused by its sizes, or written. Assumes nothing.
+-- `output::flush` meets its contract: refused by its sizes, or nothing goes out, or written. Assumes nothing.
 use native.Mathlib.Omega.{arith}
+use mathlib.Core.Path.{refl}
 use Rattle.ring.specs.Lists.{lists}
 use Rattle.snd_ring.specs.Store.{storeOf}
-use Rattle.output.proofs.Flushes.{no-bytes, no-lengths, flush-fits, flush-done}
+use Rattle.output.proofs.Flushes.{no-bytes, no-lengths, flush-fits, flush-done, flush-idle}
 use borrow.Author.Needs.{needs}
 use Rattle.output.proofs.flush.Statement.{statement}
 use Rattle.output.proofs.flush.Tie as tie
@@ -26,8 +27,7 @@ returns c =
     let m = storeOf 8 (lists (a .records .now) (a .room .now)) in
     let full = s .pre .1 .1 .0 in
     let most = s .pre .0 .acklist .waiting in
-    rw (c .too-small .ensures)
-    (no-bytes (a .before) (a .block) m (a .acks .now) (a .waiting .now) (a .out .now) (a .lengths .now) (s .pre .1 .1 .1) (omega arith) (c .before .before .before .flush-sizes .ensures .0 (a .room .now)) (c .before .if1 .taken))
+    rw (c .too-small .ensures) (no-bytes (a .before) (a .block) m (a .acks .now) (a .waiting .now) (a .out .now) (a .lengths .now) (s .pre .1 .1 .1) (omega arith) (c .before .before .before .flush-sizes .ensures .0 (a .room .now)) (c .before .if1 .taken))
 
 too-small-requires-2 : tie.Need-too-small-requires-2
 too-small-requires-2 c κs = search needs
@@ -42,42 +42,37 @@ returns-2 c =
     let m = storeOf 8 (lists (a .records .now) (a .room .now)) in
     let full = s .pre .1 .1 .0 in
     let most = s .pre .0 .acklist .waiting in
-    rw (c .too-small2 .ensures)
-    (no-lengths (a .before) (a .block) m (a .acks .now) (a .waiting .now) (a .out .now) (a .lengths .now) (s .pre .1 .1 .1) (omega arith) (c .before .before .before .before .before .flush-sizes .ensures .0 (a .room .now)) (c .before .if2 .taken))
+    rw (c .too-small2 .ensures) (no-lengths (a .before) (a .block) m (a .acks .now) (a .waiting .now) (a .out .now) (a .lengths .now) (s .pre .1 .1 .1) (omega arith) (c .before .before .before .before .before .flush-sizes .ensures .0 (a .room .now)) (c .before .if2 .taken))
 
-flush-write-requires : tie.Need-flush-write-requires
-flush-write-requires c κs =
+idle-requires : tie.Need-idle-requires
+idle-requires c κs = search needs
+
+same-length-3 : tie.Need-same-length-3
+same-length-3 c = search needs
+
+returns-3 : tie.Need-returns-3
+returns-3 c =
     let s = c .before .before .before .before .before .before .before .before .before .before .before .before .before .before .before .before in
     let a = s .args in
     let m = storeOf 8 (lists (a .records .now) (a .room .now)) in
     let full = s .pre .1 .1 .0 in
     let most = s .pre .0 .acklist .waiting in
-    let z = c .before .before .before .before .before .before .before .flush-sizes .ensures in
-    let p = s .pre .0 in (
-      c .before .before .before .before .before .before .before .before .before .planned .ensures,
-      (
-        p .settings,
-        (
-          p .acklist,
-          (
-            s .pre .1 .0,
-            (
-              full,
-              (
-                s .pre .1 .1 .1,
-                flush-fits (a .before) (a .block) m (a .acks .now) (a .waiting .now) (a .out .now) (a .lengths .now) (s .pre .1 .1 .1) (omega arith) (z .0 (a .room .now)) (c .before .before .before .before .before .if1 .left) (c .before .before .before .if2 .left) (z .1),
-              ),
-            ),
-          ),
-        ),
-      ),
-    )
+    rw (c .idle .ensures) (flush-idle (a .before) (a .block) m (a .acks .now) (a .waiting .now) (a .out .now) (a .lengths .now) (s .pre .1 .1 .1) (omega arith) (c .before .before .before .before .before .before .before .flush-sizes .ensures .0 (a .room .now)) (c .before .before .before .before .before .if1 .left) (c .before .before .before .if2 .left) (c .before .if3 .taken) (omega (arith, s .good .1 .0 .1 .1 .1 .1 .1 .1 .1 .1 .1 .0)) refl)
+
+flush-write-requires : tie.Need-flush-write-requires
+flush-write-requires c κs =
+    let s = c .before .before .before .before .before .before .before .before .before .before .before .before .before .before .before .before .before .before in
+    let a = s .args in
+    let m = storeOf 8 (lists (a .records .now) (a .room .now)) in
+    let full = s .pre .1 .1 .0 in
+    let most = s .pre .0 .acklist .waiting in
+    let z = c .before .before .before .before .before .before .before .before .before .flush-sizes .ensures in
+    let p = s .pre .0 in
+    let fits = flush-fits (a .before) (a .block) m (a .acks .now) (a .waiting .now) (a .out .now) (a .lengths .now) (s .pre .1 .1 .1) (omega arith) (z .0 (a .room .now)) (c .before .before .before .before .before .before .before .if1 .left) (c .before .before .before .before .before .if2 .left) (z .1) in
+    (c .before .before .before .before .before .before .before .before .before .before .before .planned .ensures, (p .settings, (p .acklist, (s .pre .1 .0, (full, (s .pre .1 .1 .1, fits))))))
 
 settled-requires : tie.Need-settled-requires
 settled-requires c κs = search needs
-
-same-length-3 : tie.Need-same-length-3
-same-length-3 c = search needs
 
 same-length-4 : tie.Need-same-length-4
 same-length-4 c = search needs
@@ -85,15 +80,18 @@ same-length-4 c = search needs
 same-length-5 : tie.Need-same-length-5
 same-length-5 c = search needs
 
-returns-3 : tie.Need-returns-3
-returns-3 c =
-    let s = c .before .before .before .before .before .before .before .before .before .before .before .before .before .before .before .before .before .before .before .before .before .before .before .before in
+same-length-6 : tie.Need-same-length-6
+same-length-6 c = search needs
+
+returns-4 : tie.Need-returns-4
+returns-4 c =
+    let s = c .before .before .before .before .before .before .before .before .before .before .before .before .before .before .before .before .before .before .before .before .before .before .before .before .before .before in
     let a = s .args in
     let m = storeOf 8 (lists (a .records .now) (a .room .now)) in
     let full = s .pre .1 .1 .0 in
     let most = s .pre .0 .acklist .waiting in
-    let z = c .before .before .before .before .before .before .before .before .before .before .before .before .before .before .before .flush-sizes .ensures in
-    flush-done (a .before) (a .block) m (a .acks .now) (a .waiting .now) (a .out .now) (a .lengths .now) (s .pre .1 .1 .1) (omega arith) (z .0 (a .room .now)) (c .before .before .before .before .before .before .before .before .before .before .before .before .before .if1 .left) (c .before .before .before .before .before .before .before .before .before .before .before .if2 .left) (c .before .before .before .before .before .before .before .flush-write .ensures) (c .settled .ensures)
+    let z = c .before .before .before .before .before .before .before .before .before .before .before .before .before .before .before .before .before .flush-sizes .ensures in
+    flush-done (a .before) (a .block) m (a .acks .now) (a .waiting .now) (a .out .now) (a .lengths .now) (s .pre .1 .1 .1) (omega arith) (z .0 (a .room .now)) (c .before .before .before .before .before .before .before .before .before .before .before .before .before .before .before .if1 .left) (c .before .before .before .before .before .before .before .before .before .before .before .before .before .if2 .left) (c .before .before .before .before .before .before .before .flush-write .ensures) (c .settled .ensures)
 
 pub flush-spec : {M : Type 1} → statement M
 flush-spec =
@@ -107,9 +105,12 @@ flush-spec =
     too-small-requires-2
     same-length-2
     returns-2
+    idle-requires
+    same-length-3
+    returns-3
     flush-write-requires
     settled-requires
-    same-length-3
     same-length-4
     same-length-5
-    returns-3)
+    same-length-6
+    returns-4)
