@@ -261,7 +261,7 @@ module _ (k : Kcp) (snd : Lists) (current : ℕ) where
   check-promise e = record {
     is = e;
     refusal = ap numberOfWait e ∙ pick-ap numberOfWait (sendFits k snd) _ _;
-    values = ap valuesOfWait e ∙ either-way valuesOfWait (sendFits k snd) _ _ refl refl;
+    values = ap valuesOfWait e ∙ pick-ap valuesOfWait (sendFits k snd) _ _;
   }
 
   module _ {t : Bool} (tested : t ≡ sendFits k snd) where

@@ -4,7 +4,7 @@
 use Prim.Native.Nat.{ℕ}
 use mathlib.Core.Path.{_≡_}
 use mathlib.Core.Bool.{Bool, true, _&&_}
-use mathlib.Core.List.{List, [], map}
+use mathlib.Core.List.{List, [], _∷_, map}
 use lib.ListN.{length}
 use Rattle.serial.specs.Branch.{pick}
 use Rattle.ring.specs.Lists.{Lists}
@@ -93,7 +93,7 @@ numberOfWait (Is wait) = 0
 numberOfWait (Refused why) = numberOf why
 
 abbrev pub valuesOfWait : Wait → List ℕ
-valuesOfWait (Is wait) = []
+valuesOfWait (Is wait) = wait ∷ []
 valuesOfWait (Refused why) = valuesOf why
 
 unfoldable pub checkOf : Kcp → Lists → ℕ → Wait
@@ -102,4 +102,4 @@ checkOf k snd current = pick (sendFits k snd) (Is (checkAt current k (storeOf 8 
 pub record Checks (k : Kcp) (snd : Lists) (current : ℕ) (r : Wait) : Type 0 where
   pub is : r ≡ checkOf k snd current
   pub refusal : numberOfWait r ≡ pick (sendFits k snd) 0 15
-  pub values : valuesOfWait r ≡ []
+  pub values : valuesOfWait r ≡ pick (sendFits k snd) (checkAt current k (storeOf 8 snd) ∷ []) []
