@@ -229,8 +229,8 @@ fn put_back(records: &mut [u32], slots: usize, q: usize, n: usize, fs: [Flight; 
     }
 }
 
-// Raises the fastacks at n places from q on, by one walk over their flight records. Where there is none, no array is made: so told that there is one,
-// the compiler keeps one array in place of its copies.
+// Raises the fastacks at the n places from q on, by one walk over their flight records. Behind the test of n the compiler has one array for the three
+// calls, where it would copy it twice.
 fn raise_part(records: &mut [u32], slots: usize, q: usize, n: usize, max_ack: u32, latest_ts: u32)
     requires { ⌜ slots ≡ length (now records) / 9 ⌝ }
     requires { ⌜ slots ≤ 65535 ⌝ }
