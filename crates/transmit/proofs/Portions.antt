@@ -21,7 +21,7 @@ use Rattle.sending.specs.declared.Flight.{Flight}
 use Rattle.sending.specs.Flights.{raisedFlight, raiseFirst}
 use Rattle.transmit.specs.Memory.{fastack, raisedOne, raisedFrom}
 use Rattle.transmit.proofs.Numbers.{by-eq, rows-room}
-use Rattle.transmit.specs.Portions.{flightAt, none, Gaps, Gathered, writtenBack, putBack, raisedRun}
+use Rattle.transmit.specs.Portions.{flightAt, none, Gathered, writtenBack, putBack, raisedRun}
 
 -- ---- one place
 
@@ -78,10 +78,6 @@ module _ (f : Flight) (a room : List ℕ) (q : ℕ) {slots : ℕ} (e : slots ≡
 pub gathered-more : (m : Store) (q i : ℕ) (fs : List Flight) → i < length fs → Gathered m q i fs → {f : Flight} → f ≡ flightAt m (q + i) → Gathered m q (i + 1) (set fs i f)
 gathered-more m q i fs l g {f} e j h =
     by-eq j i (λ d. rw d (getD-set-same fs i f none l ∙ e)) (λ d. getD-set-other fs i j f none d ∙ g j (omega arith))
-
--- one gap more at the end
-pub gaps-more : (a : List ℕ) (p to : ℕ) → 0 < p → Gaps a p to → getD a (p - 1) 0 ≡ 0 → Gaps a (p - 1) to
-gaps-more a p to h g z k low high = by-eq k (p - 1) (λ e. rw e z) (λ d. g k (omega arith) high)
 
 -- what is left to write from record i on
 module _ (fs : List Flight) (q n : ℕ) (m : Store) where
@@ -160,24 +156,6 @@ module _ (ack late : ℕ) where
   pub run-end : (q to : ℕ) (m : Store) → to ≤ q → raisedRun ack late q (to - q) m ≡ m
   unfolding raisedRun
   run-end q to m h = let e : to - q ≡ 0 = omega arith in rw e
-
-  -- gaps at its end change nothing
-  run-gaps : (q n : ℕ) (m : Store) → ((p : ℕ) → q ≤ p → p < q + n → getD (m .marks) p 0 ≡ 0) → raisedRun ack late q n m ≡ m
-  unfolding raisedRun
-  run-gaps q zero m g = refl
-  run-gaps q (suc n) m g =
-      let e = back-gap (step (flightAt m q)) q m (g q (omega arith) (omega arith)) in
-      ap (raisedRun ack late (suc q) n) e ∙ run-gaps (suc q) n m (λ p a b. g p (omega arith) (omega arith))
-
-  pub run-trimmed : (a room : List ℕ) {slots from end to : ℕ} → slots ≡ length a / 9 → to ≤ slots → from ≤ end → end ≤ to → Gaps a end to
-      → {k : Store} → k ≡ raisedRun ack late from (end - from) (storeOf 8 (lists a room)) → k ≡ raisedRun ack late from (to - from) (storeOf 8 (lists a room))
-  run-trimmed a room {from} {end} {to} e l b h g d =
-      let m = storeOf 8 (lists a room) in
-      let m′ = raisedRun ack late from (end - from) m in
-      let x : to - from ≡ (end - from) + (to - end) = omega arith in
-      let y : from + (end - from) ≡ end = omega arith in
-      d ∙ sym (run-gaps end (to - end) m′ (λ p u v. rw (run-marks from (end - from) m) (sym (mark-read 8 a room p 0 (omega arith)) ∙ g p u (omega arith))))
-      ∙ rw (← x, y) at (sym (run-add from (end - from) (to - end) m))
 
   -- ---- a run, or two, are the indices in flight
 

@@ -1,6 +1,6 @@
 -- `parse_fastack` goes over places, and over portions of them: what each of its functions leaves. That this is the walk over the indices in flight
 -- (Memory's `raisedFrom`): proofs/Portions. Assumes nothing.
-use Prim.Native.Nat.{ℕ, zero, suc, _+_, _≤_, _<_}
+use Prim.Native.Nat.{ℕ, zero, suc, _+_, _<_}
 use mathlib.Core.Path.{_≡_}
 use mathlib.Core.Bool.{cond}
 use mathlib.Core.List.{List}
@@ -38,7 +38,3 @@ putBack fs q j (suc n) m = putBack fs q (suc j) n (writtenBack (getD fs j none) 
 unfoldable pub raisedRun : ℕ → ℕ → ℕ → ℕ → Store → Store
 raisedRun maxAck latestTs q zero m = m
 raisedRun maxAck latestTs q (suc n) m = raisedRun maxAck latestTs (suc q) n (writtenBack (raisedFlight maxAck latestTs (flightAt m q)) q m)
-
--- gaps alone stand at the places from `from` up to `to`, of which the marks are the first numbers
-abbrev pub Gaps : List ℕ → ℕ → ℕ → Type 0
-Gaps records from to = (p : ℕ) → from ≤ p → p < to → getD records p 0 ≡ 0

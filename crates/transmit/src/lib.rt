@@ -9,7 +9,7 @@ ghost use Rattle.ring.specs.Lists.{lists};
 ghost use Rattle.snd_ring.specs.Store.{storeOf};
 ghost use Rattle.sending.specs.Rules.{acknowledgedBy, stops};
 ghost use Rattle.transmit.specs.Memory.{flyingNumbers, side, shrunkAt, unaAt, ackAt, raisedFrom, fastackAt, endsAt, endsIn, First, Ends};
-ghost use Rattle.transmit.specs.Portions.{flightAt, Gaps, Gathered, writtenBack, putBack, raisedRun};
+ghost use Rattle.transmit.specs.Portions.{flightAt, Gathered, writtenBack, putBack, raisedRun};
 ghost use Rattle.transmit.specs.Fits.{sendLent, Lies};
 use block::sender::Sender;
 use block::sizes::send_sizes;
@@ -276,42 +276,6 @@ fn raise_run(
     }
 }
 
-// The place behind the last segment of the places from `from` up to `to`, or `from`: from there on are gaps alone.
-fn behind_last(records: &[u32], from: usize, to: usize) -> usize
-    requires { ⌜ from ≤ to ⌝ }
-    requires { ⌜ to ≤ length (now records) ⌝ }
-    requires { ⌜ to ≤ 65535 ⌝ }
-    ensures { λ r. ⌜ (from ≤ r) × (r ≤ to) × Gaps (now (records .entry)) r to ⌝ }
-{
-    let mut p = to;
-    while from < p {
-        if records[p - 1] != 0 {
-            return p;
-        }
-        p -= 1;
-    }
-    p
-}
-
-// The same run, but no record is made of the gaps at its end, as where the newest are acked first.
-fn raise_live(
-    records: &mut [u32],
-    slots: usize,
-    from: usize,
-    to: usize,
-    max_ack: u32,
-    latest_ts: u32,
-)
-    requires { ⌜ slots ≡ length (now records) / 9 ⌝ }
-    requires { ⌜ slots ≤ 65535 ⌝ }
-    requires { ⌜ from ≤ to ⌝ }
-    requires { ⌜ to ≤ slots ⌝ }
-    ensures { λ _. ⌜ ((room : List ℕ) → storeOf 8 (lists (now (records .exit)) room) ≡ raisedRun «max_ack» «latest_ts» from (to - from) (storeOf 8 (lists (now (records .entry)) room))) ⌝ }
-{
-    let end = behind_last(records, from, to);
-    raise_run(records, slots, from, end, max_ack, latest_ts);
-}
-
 // Raises them at the indices in flight, front to back. The places are one run, or two round the ring's end.
 fn raise(ring: SndRing, records: &mut [u32], max_ack: u32, latest_ts: u32)
     requires { ⌜ length (now records) / 9 ≤ 65535 ⌝ }
@@ -323,8 +287,8 @@ fn raise(ring: SndRing, records: &mut [u32], max_ack: u32, latest_ts: u32)
     let start = ring.start as usize;
     let reach = ring.reach as usize;
     let first = least(reach, slots - start);
-    raise_live(records, slots, start, start + first, max_ack, latest_ts);
-    raise_live(records, slots, 0, reach - first, max_ack, latest_ts);
+    raise_run(records, slots, start, start + first, max_ack, latest_ts);
+    raise_run(records, slots, 0, reach - first, max_ack, latest_ts);
 }
 
 // What the acks of a datagram do to the flight records, if max_ack lies in what was sent and is not acked.

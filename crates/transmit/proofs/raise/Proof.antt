@@ -19,17 +19,17 @@ sub-least c = search needs
 least-requires : tie.Need-least-requires
 least-requires c κs = search needs
 
-add-raise-live : tie.Need-add-raise-live
-add-raise-live c = search needs
+add-raise-run : tie.Need-add-raise-run
+add-raise-run c = search needs
 
-raise-live-requires : tie.Need-raise-live-requires
-raise-live-requires c κs = search needs
+raise-run-requires : tie.Need-raise-run-requires
+raise-run-requires c κs = search needs
 
-sub-raise-live : tie.Need-sub-raise-live
-sub-raise-live c = search needs
+sub-raise-run : tie.Need-sub-raise-run
+sub-raise-run c = search needs
 
-raise-live-requires-2 : tie.Need-raise-live-requires-2
-raise-live-requires-2 c κs = search needs
+raise-run-requires-2 : tie.Need-raise-run-requires-2
+raise-run-requires-2 c κs = search needs
 
 same-length : tie.Need-same-length
 same-length c = search needs
@@ -42,7 +42,7 @@ returns c =
     let l = n .before .before .before in
     let s = l .before .before in
     let a = s .args in
-    λ room. runs-done (a .max-ack) (a .latest-ts) (a .ring) (a .records .now) room (l .slots-in .ensures) (s .pre .1 .0) (n .least .ensures) (d .raise-live .ensures room) (e .raise-live2 .ensures room)
+    λ room. runs-done (a .max-ack) (a .latest-ts) (a .ring) (a .records .now) room (l .slots-in .ensures) (s .pre .1 .0) (n .least .ensures) (d .raise-run .ensures room) (e .raise-run2 .ensures room)
 
 pub raise-spec : {M : Type 1} → statement M
 raise-spec =
@@ -53,9 +53,9 @@ raise-spec =
     cast-reach
     sub-least
     least-requires
-    add-raise-live
-    raise-live-requires
-    sub-raise-live
-    raise-live-requires-2
+    add-raise-run
+    raise-run-requires
+    sub-raise-run
+    raise-run-requires-2
     same-length
     returns)
