@@ -5,9 +5,11 @@ use mathlib.Core.Bool.{Bool, true, false}
 use mathlib.Core.List.{List, [], _∷_, map}
 use Rattle.serial.specs.Branch.{pick}
 use Rattle.ring.specs.Sequences.{removed}
+use Rattle.sending.specs.declared.Flight.{Flight}
 use Rattle.sending.specs.declared.Latest.{Latest}
 use Rattle.sending.specs.declared.Window.{Window}
 use Rattle.sending.specs.Rules.{acknowledgedBy, unaOf, inRange, seek, meets, later, gains, fastackOf, counts, pastThreshold, roundedUp, opened, cutTo, grown}
+use Rattle.sending.specs.Flights.{raiseFirst}
 
 -- una exactly 2^31 past a number drops it not, and one less drops it; the front number is the new snd_una, or snd_nxt
 una : (acknowledgedBy 2147483648 (0 ∷ 1 ∷ []) ≡ 0) × (acknowledgedBy 2147483647 (0 ∷ 1 ∷ []) ≡ 2) × (acknowledgedBy 1 (0 ∷ 1 ∷ 2 ∷ []) ≡ 1) × (unaOf 9 (3 ∷ []) ≡ 3) × (unaOf 9 [] ≡ 9)
@@ -34,6 +36,14 @@ latest = (refl, refl, refl, refl)
 fast : (fastackOf 2 (10 + 2 ^ 31) 0 10 0 ≡ 0) × (fastackOf 2 2147483657 0 10 0 ≡ 1) × (fastackOf 2 10 2 10 7 ≡ 7) × (fastackOf 2 10 1 10 4294967295 ≡ 0)
 unfolding fastackOf gains pick
 fast = (refl, refl, refl, refl)
+
+-- of three flight records the first two are gone over, and one of them is numbered before 2
+flight : ℕ → ℕ → Flight
+flight sn n = record { number = sn; ts = 10; fastack = n }
+
+firstTwo : raiseFirst 2 2 10 (flight 0 4 ∷ flight 2 7 ∷ flight 1 5 ∷ []) ≡ flight 0 5 ∷ flight 2 7 ∷ flight 1 5 ∷ []
+unfolding flight fastackOf gains pick
+firstTwo = refl
 
 -- max_ack that was never sent counts for none
 none : (counts (record { seen = true; sn = 1000; ts = 10 }) 0 3 ≡ false) × (counts (record { seen = false; sn = 1; ts = 10 }) 0 3 ≡ false) × (counts first 0 3 ≡ true)

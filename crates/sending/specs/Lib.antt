@@ -1,3 +1,4 @@
 pub mod Rules
+pub mod Flights
 pub mod Send
 pub mod Examples

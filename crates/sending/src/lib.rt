@@ -1,8 +1,10 @@
 // The sending side's rules (specs/), and what they do with numbers: the range in flight, the latest ack, a fastack, the window's growth.
 ghost use mathlib.Core.Path.{_≡_};
 ghost use mathlib.Core.Bool.{false};
-ghost use Prim.Native.Nat.{_<_, max};
+ghost use Prim.Native.Nat.{_<_, _≤_, max};
+ghost use lib.ListN.{length};
 ghost use Rattle.sending.specs.Rules.{inRange, stops, fastackOf, later, counts, pastThreshold, roundedUp, opened, cutTo, grown};
+ghost use Rattle.sending.specs.Flights.{raisedFlight, raiseFirst};
 
 // max_ack and latest_ts, once an ack of the datagram was seen: those of its first ack, and then of each that is later in both.
 pub struct Latest {
@@ -51,6 +53,40 @@ pub fn fastack_of(flight: Flight, max_ack: u32, latest_ts: u32) -> u32
         }
     }
     flight.fastack
+}
+
+// A flight record after the acks of a datagram.
+pub fn raised(flight: Flight, max_ack: u32, latest_ts: u32) -> Flight
+    ensures { λ r. ⌜ r ≡ raisedFlight «max_ack» «latest_ts» flight ⌝ }
+{
+    Flight {
+        number: flight.number,
+        ts: flight.ts,
+        fastack: fastack_of(flight, max_ack, latest_ts),
+    }
+}
+
+// The first n flight records of those lent, each so, in one walk.
+pub fn raise(flights: &mut [Flight], n: usize, max_ack: u32, latest_ts: u32)
+    requires { ⌜ n ≤ length (now flights) ⌝ }
+    ensures { λ _. ⌜ now (flights .exit) ≡ raiseFirst n «max_ack» «latest_ts» (now (flights .entry)) ⌝ }
+{
+    let mut i = 0;
+    while i < n {
+        let f = flights[i];
+        flights[i] = raised(f, max_ack, latest_ts);
+        i += 1;
+    }
+}
+
+// The same of an array, which is lent to the walk and handed back: whoever calls it holds no reference to records.
+pub fn raise_all(fs: [Flight; 64], n: usize, max_ack: u32, latest_ts: u32) -> [Flight; 64]
+    requires { ⌜ n ≤ 64 ⌝ }
+    ensures { λ r. ⌜ r ≡ raiseFirst n «max_ack» «latest_ts» fs ⌝ }
+{
+    let mut xs = fs;
+    raise(&mut xs, n, max_ack, latest_ts);
+    xs
 }
 
 impl Latest {

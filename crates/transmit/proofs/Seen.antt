@@ -197,11 +197,11 @@ module _ (ack late : ℕ) (r : SndRing) (i : ℕ) (m : Store) where
   abbrev v : ℕ
   v = fastackOf ack late (numberIn r m i sn) (numberIn r m i ts) (numberIn r m i fastack)
 
-  pub one-gap : markAt (m .marks) (r .start) i ≡ 0 → raisedOne ack late r i m ≡ m
+  one-gap : markAt (m .marks) (r .start) i ≡ 0 → raisedOne ack late r i m ≡ m
   unfolding raisedOne
   one-gap h = rw (eq-eqb (markAt (m .marks) (r .start) i) 0 h)
 
-  pub one-live : (markAt (m .marks) (r .start) i ≡ 0 → ⊥) → raisedOne ack late r i m ≡ renumbered 8 m q fastack v
+  one-live : (markAt (m .marks) (r .start) i ≡ 0 → ⊥) → raisedOne ack late r i m ≡ renumbered 8 m q fastack v
   unfolding raisedOne
   one-live h = rw (ne-eqb (markAt (m .marks) (r .start) i) 0 h)
 

@@ -1,29 +1,27 @@
 -- What the steps of the code ask and give, in the words of `specs/Memory.antt`. Assumes nothing.
-use Prim.Native.Nat.{ℕ, suc, _+_, _-_, _/_, _≤_, _<_}
+use Prim.Native.Nat.{ℕ, _+_, _-_, _/_, _≤_, _<_}
 use native.Mathlib.Omega.{arith}
-use native.Mathlib.Numerals.{add-one}
 use mathlib.Core.Path.{_≡_, sym, ap, _∙_, subst}
 use mathlib.Core.Bool.{Bool, true, false, not}
 use mathlib.Core.List.{List, []}
-use lib.ListN.{length, take, drop, getD}
+use lib.ListN.{length, take, drop}
 use borrow.Author.Tests.{not-true, not-false}
 use Rattle.serial.specs.Branch.{pick-true, pick-false}
 use Rattle.ring.specs.Lists.{lists}
-use Rattle.ring.specs.Places.{place}
 use Rattle.ring.specs.Records.{numberAt}
 use Rattle.snd_ring.specs.declared.SndRing.{SndRing}
 use Rattle.snd_ring.specs.Store.{Store, storeOf, Sound}
-use Rattle.snd_ring.specs.Steps.{dropped, gapped, takenOut, withMarks, renumbered}
-use Rattle.snd_ring.proofs.Splits.{marks-length, part-marks, place-by}
+use Rattle.snd_ring.specs.Steps.{dropped, gapped, takenOut, withMarks}
+use Rattle.snd_ring.proofs.Splits.{marks-length, part-marks}
 use Rattle.block.specs.declared.sender.Sender.{Sender}
 use Rattle.block.specs.Parts.{withSndRing, withUna}
 use Rattle.sending.specs.declared.Latest.{Latest}
-use Rattle.sending.specs.Rules.{acknowledgedBy, unaOf, inRange, found, counts, fastackOf}
+use Rattle.sending.specs.Rules.{acknowledgedBy, unaOf, inRange, found, counts}
 use Rattle.transmit.specs.declared.Sought.{Sought}
-use Rattle.transmit.specs.Memory.{sn, ts, fastack, flyingNumbers, Side, side, shrunkAt, unaAt, sought, Ends, removedAt, shrunkSide, ackAt, raisedOne, raisedFrom, fastackAt}
+use Rattle.transmit.specs.Memory.{sn, ts, flyingNumbers, Side, side, shrunkAt, unaAt, sought, Ends, removedAt, shrunkSide, ackAt, raisedFrom, fastackAt}
 use Rattle.transmit.specs.Fits.{Lies}
-use Rattle.transmit.proofs.Numbers.{numbers-room, rows-room, una-none, una-front, mark-is, number-is}
-use Rattle.transmit.proofs.Seen.{acknowledged-flying, una-sound, removed-sound, found-flying, one-gap, one-live}
+use Rattle.transmit.proofs.Numbers.{numbers-room, rows-room, una-none, una-front}
+use Rattle.transmit.proofs.Seen.{acknowledged-flying, una-sound, removed-sound, found-flying}
 
 -- ---- what the calls below ask of the memory, and `shrink`
 
@@ -118,39 +116,6 @@ module _ {s : Sender} {a : List ℕ} (l : Lies s a) where
         ack-done f room =
             ap (λ (r : Sender). side r (storeOf 8 (lists b room))) (f room)
             ∙ ap (λ (y : Side). side (shrunkAt (y .sender) (y .store)) (y .store)) (removed-by room ∙ sym (pick-true _ _ (is-found room)))
-
--- ---- `raise_one`
-
-module _ (ack late : ℕ) (r : SndRing) (a room : List ℕ) (i : ℕ) {slots q : ℕ} (e : slots ≡ length a / 9) (p : (q ≡ place slots (r .start) i) × (q < slots)) where
-  abbrev here : Store
-  here = storeOf 8 (lists a room)
-
-  pub raised-none : getD a q 0 ≡ 0 → here ≡ raisedOne ack late r i here
-  raised-none z = sym (one-gap ack late r i here (sym (mark-is r a room i e p) ∙ z))
-
-  -- the numbers that were read, and the memory k after the write
-  pub raised-some : (getD a q 0 ≡ 0 → ⊥) → {x y z v : ℕ} → x ≡ numberAt 8 (storeOf 8 (lists a []) .rows) q sn → y ≡ numberAt 8 (storeOf 8 (lists a []) .rows) q ts
-      → z ≡ numberAt 8 (storeOf 8 (lists a []) .rows) q fastack → v ≡ fastackOf ack late x y z
-      → {k : Store} → k ≡ renumbered 8 here q fastack v → k ≡ raisedOne ack late r i here
-  raised-some live f g h j d =
-      d ∙ rw (j, f, g, h, number-is r a room i e p sn, number-is r a room i e p ts, number-is r a room i e p fastack, place-by 8 (lists a room) slots (r .start) i q e (p .0))
-      (sym (one-live ack late r i here (λ n. live (mark-is r a room i e p ∙ n))))
-
--- ---- `raise`: what is left to walk from index i on
-
-module _ (ack late : ℕ) (r : SndRing) (m : Store) where
-  pub walk-all : raisedFrom ack late r 0 (r .reach - 0) m ≡ raisedFrom ack late r 0 (r .reach) m
-  walk-all = let e : r .reach - 0 ≡ r .reach = omega arith in rw e
-
-  pub walk-more : (i : ℕ) → i < r .reach → {k : Store} → k ≡ raisedOne ack late r i m → raisedFrom ack late r (i + 1) (r .reach - (i + 1)) k ≡ raisedFrom ack late r i (r .reach - i) m
-  unfolding raisedFrom
-  walk-more i h e =
-      let d : r .reach - i ≡ suc (r .reach - (i + 1)) = omega arith in
-      rw (d, e, add-one)
-
-  pub walk-end : (i : ℕ) → r .reach ≤ i → raisedFrom ack late r i (r .reach - i) m ≡ m
-  unfolding raisedFrom
-  walk-end i h = let e : r .reach - i ≡ 0 = omega arith in rw e
 
 -- ---- `parse_fastack`
 

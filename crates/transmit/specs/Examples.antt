@@ -14,6 +14,8 @@ use Rattle.snd_ring.specs.Store as memory
 use Rattle.snd_ring.specs.Steps.{ring, settled, advanced, dropped, gapped, takenOut}
 use Rattle.block.specs.declared.sender.Sender.{Sender}
 use Rattle.sending.specs.Rules.{acknowledgedBy, unaOf, inRange, seek, meets, found, gains, fastackOf, counts}
+use Rattle.sending.specs.Flights.{raiseFirst}
+use Rattle.transmit.specs.Portions.{flightAt, writtenBack, putBack, raisedRun}
 use Rattle.transmit.specs.Memory.{flyingNumbers, side, shrunkAt, unaAt, endsAt, sought, removedAt, shrunkSide, ackAt, raisedOne, raisedFrom, fastackAt}
 
 -- a row by its number and its fastack, sent at 100
@@ -64,3 +66,12 @@ none = refl
 raised : fastackAt (record { seen = true; sn = 13; ts = 100 }) (sender 10 (ring 3 4 3 0)) (four flying 0) ≡ four flying 1
 unfolding fastackAt pick counts inRange raisedFrom raisedOne fastackOf gains place put sender four flying row
 raised = refl
+
+-- the same by the two runs of its places, of which place 1 is a gap, and by the records of the second run once the walk has raised them
+byRuns : raisedRun 13 100 0 3 (raisedRun 13 100 3 1 (four flying 0)) ≡ four flying 1
+unfolding raisedRun writtenBack fastackOf gains pick put four flying row
+byRuns = refl
+
+byRecords : putBack (raiseFirst 3 13 100 (flightAt (four flying 0) 0 ∷ flightAt (four flying 0) 1 ∷ flightAt (four flying 0) 2 ∷ [])) 0 0 3 (raisedRun 13 100 3 1 (four flying 0)) ≡ four flying 1
+unfolding putBack raisedRun writtenBack fastackOf gains pick put four flying row
+byRecords = refl

@@ -1,3 +1,4 @@
 pub mod Memory
+pub mod Portions
 pub mod Fits
 pub mod Examples

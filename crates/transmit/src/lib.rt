@@ -2,13 +2,14 @@
 ghost use mathlib.Core.Path.{_≡_};
 ghost use mathlib.Core.Bool.{_&&_, _||_};
 ghost use mathlib.Core.List.{List, []};
-ghost use Prim.Native.Nat.{ℕ, _/_, _≤_, _<_};
+ghost use Prim.Native.Nat.{ℕ, _+_, _-_, _/_, _≤_, _<_, min};
 ghost use lib.ListN.{length};
 ghost use lib.Dec.{eqb};
 ghost use Rattle.ring.specs.Lists.{lists};
 ghost use Rattle.snd_ring.specs.Store.{storeOf};
 ghost use Rattle.sending.specs.Rules.{acknowledgedBy, stops};
-ghost use Rattle.transmit.specs.Memory.{flyingNumbers, side, shrunkAt, unaAt, ackAt, raisedOne, raisedFrom, fastackAt, endsAt, endsIn, First, Ends};
+ghost use Rattle.transmit.specs.Memory.{flyingNumbers, side, shrunkAt, unaAt, ackAt, raisedFrom, fastackAt, endsAt, endsIn, First, Ends};
+ghost use Rattle.transmit.specs.Portions.{flightAt, Gathered, writtenBack, putBack, raisedRun};
 ghost use Rattle.transmit.specs.Fits.{sendLent, Lies};
 use block::sender::Sender;
 use block::sizes::send_sizes;
@@ -166,45 +167,128 @@ pub fn parse_ack(sender: Sender, records: &mut [u32], sn: u32) -> Sender
     shrink(sender.with_ring(less), records)
 }
 
-// Writes the fastack of the segment at index i after the acks of a datagram; a gap is passed over.
-fn raise_one(ring: SndRing, records: &mut [u32], i: usize, max_ack: u32, latest_ts: u32)
-    requires { ⌜ length (now records) / 9 ≤ 65535 ⌝ }
-    requires { ⌜ ring .start < length (now records) / 9 ⌝ }
-    requires { ⌜ i < length (now records) / 9 ⌝ }
-    ensures { λ _. ⌜ ((room : List ℕ) → storeOf 8 (lists (now (records .exit)) room) ≡ raisedOne «max_ack» «latest_ts» ring i (storeOf 8 (lists (now (records .entry)) room))) ⌝ }
+// The flight record at place q.
+fn flight_at(records: &[u32], slots: usize, q: usize) -> Flight
+    requires { ⌜ slots ≡ length (now records) / 9 ⌝ }
+    requires { ⌜ q < slots ⌝ }
+    ensures { λ r. ⌜ r ≡ flightAt (storeOf 8 (lists (now (records .entry)) [])) q ⌝ }
 {
-    let slots = snd_ring::slots_in(records.len());
-    let q = ring::place_of(slots, ring.start as usize, i);
-    if records[q] == 0 {
-        return;
-    }
-    let flight = Flight {
+    Flight {
         number: snd_ring::number_at(records, slots, q, SN),
         ts: snd_ring::number_at(records, slots, q, TS),
         fastack: snd_ring::number_at(records, slots, q, FASTACK),
-    };
-    snd_ring::put_number(
-        records,
-        slots,
-        q,
-        FASTACK,
-        sending::fastack_of(flight, max_ack, latest_ts),
-    );
+    }
 }
 
-// The same of the segments in flight, front to back.
+// The flight records at the n places from q on, side by side, those of gaps among them.
+fn gathered(records: &[u32], slots: usize, q: usize, n: usize) -> [Flight; 64]
+    requires { ⌜ slots ≡ length (now records) / 9 ⌝ }
+    requires { ⌜ slots ≤ 65535 ⌝ }
+    requires { ⌜ q + n ≤ slots ⌝ }
+    requires { ⌜ n ≤ 64 ⌝ }
+    ensures { λ r. ⌜ Gathered (storeOf 8 (lists (now (records .entry)) [])) q n r ⌝ }
+{
+    let none = Flight {
+        number: 0,
+        ts: 0,
+        fastack: 0,
+    };
+    let mut fs = [none; 64];
+    let mut i = 0;
+    while i < n {
+        fs[i] = flight_at(records, slots, q + i);
+        i += 1;
+    }
+    fs
+}
+
+// Writes the fastack of a flight record at place q; a gap is passed over.
+fn put_one(records: &mut [u32], slots: usize, q: usize, f: Flight)
+    requires { ⌜ slots ≡ length (now records) / 9 ⌝ }
+    requires { ⌜ q < slots ⌝ }
+    ensures { λ _. ⌜ ((room : List ℕ) → storeOf 8 (lists (now (records .exit)) room) ≡ writtenBack f q (storeOf 8 (lists (now (records .entry)) room))) ⌝ }
+{
+    if records[q] == 0 {
+        return;
+    }
+    snd_ring::put_number(records, slots, q, FASTACK, f.fastack);
+}
+
+// Writes those of the first n flight records back, at the places from q on.
+fn put_back(records: &mut [u32], slots: usize, q: usize, n: usize, fs: [Flight; 64])
+    requires { ⌜ slots ≡ length (now records) / 9 ⌝ }
+    requires { ⌜ slots ≤ 65535 ⌝ }
+    requires { ⌜ q + n ≤ slots ⌝ }
+    requires { ⌜ n ≤ 64 ⌝ }
+    ensures { λ _. ⌜ ((room : List ℕ) → storeOf 8 (lists (now (records .exit)) room) ≡ putBack fs q 0 n (storeOf 8 (lists (now (records .entry)) room))) ⌝ }
+{
+    let mut i = 0;
+    while i < n {
+        put_one(records, slots, q + i, fs[i]);
+        i += 1;
+    }
+}
+
+// Raises the fastacks at the n places from q on, by one walk over their flight records. Behind the test of n the compiler has one array for the three
+// calls, where it would copy it twice.
+fn raise_part(records: &mut [u32], slots: usize, q: usize, n: usize, max_ack: u32, latest_ts: u32)
+    requires { ⌜ slots ≡ length (now records) / 9 ⌝ }
+    requires { ⌜ slots ≤ 65535 ⌝ }
+    requires { ⌜ q + n ≤ slots ⌝ }
+    requires { ⌜ n ≤ 64 ⌝ }
+    ensures { λ _. ⌜ ((room : List ℕ) → storeOf 8 (lists (now (records .exit)) room) ≡ raisedRun «max_ack» «latest_ts» q n (storeOf 8 (lists (now (records .entry)) room))) ⌝ }
+{
+    if n == 0 {
+        return;
+    }
+    let fs = gathered(records, slots, q, n);
+    let gs = sending::raise_all(fs, n, max_ack, latest_ts);
+    put_back(records, slots, q, n, gs);
+}
+
+// The lesser of two numbers.
+fn least(a: usize, b: usize) -> usize
+    ensures { λ r. ⌜ r ≡ min a b ⌝ }
+{
+    if a < b { a } else { b }
+}
+
+// Raises them at the places from `from` up to `to`, 64 at a time.
+fn raise_run(
+    records: &mut [u32],
+    slots: usize,
+    from: usize,
+    to: usize,
+    max_ack: u32,
+    latest_ts: u32,
+)
+    requires { ⌜ slots ≡ length (now records) / 9 ⌝ }
+    requires { ⌜ slots ≤ 65535 ⌝ }
+    requires { ⌜ from ≤ to ⌝ }
+    requires { ⌜ to ≤ slots ⌝ }
+    ensures { λ _. ⌜ ((room : List ℕ) → storeOf 8 (lists (now (records .exit)) room) ≡ raisedRun «max_ack» «latest_ts» from (to - from) (storeOf 8 (lists (now (records .entry)) room))) ⌝ }
+{
+    let mut q = from;
+    while q < to {
+        let n = least(to - q, 64);
+        raise_part(records, slots, q, n, max_ack, latest_ts);
+        q += n;
+    }
+}
+
+// Raises them at the indices in flight, front to back. The places are one run, or two round the ring's end.
 fn raise(ring: SndRing, records: &mut [u32], max_ack: u32, latest_ts: u32)
     requires { ⌜ length (now records) / 9 ≤ 65535 ⌝ }
     requires { ⌜ ring .start < length (now records) / 9 ⌝ }
     requires { ⌜ ring .reach ≤ length (now records) / 9 ⌝ }
     ensures { λ _. ⌜ ((room : List ℕ) → storeOf 8 (lists (now (records .exit)) room) ≡ raisedFrom «max_ack» «latest_ts» ring 0 (ring .reach) (storeOf 8 (lists (now (records .entry)) room))) ⌝ }
 {
+    let slots = snd_ring::slots_in(records.len());
+    let start = ring.start as usize;
     let reach = ring.reach as usize;
-    let mut i = 0;
-    while i < reach {
-        raise_one(ring, records, i, max_ack, latest_ts);
-        i += 1;
-    }
+    let first = least(reach, slots - start);
+    raise_run(records, slots, start, start + first, max_ack, latest_ts);
+    raise_run(records, slots, 0, reach - first, max_ack, latest_ts);
 }
 
 // What the acks of a datagram do to the flight records, if max_ack lies in what was sent and is not acked.

@@ -1,73 +1,61 @@
--- `transmit::raise` meets its contract: what is left to walk from index i on is the whole. Assumes nothing.
-use native.Mathlib.Omega.{arith}
-use Prim.Native.Nat.{ℕ, _-_, _/_, _≤_}
-use mathlib.Core.Path.{_≡_, refl, sym, ap, _∙_}
-use mathlib.Core.List.{List}
-use lib.ListN.{length}
-use Rattle.ring.specs.Lists.{lists}
-use Rattle.snd_ring.specs.Store.{storeOf}
-use Rattle.transmit.specs.Memory.{raisedFrom}
-use Rattle.transmit.proofs.Steps.{walk-all, walk-more, walk-end}
+-- `transmit::raise` meets its contract: the places in flight are one run, or two. Assumes nothing.
+use Rattle.transmit.proofs.Portions.{runs-done}
+use borrow.Author.Needs.{needs}
 use Rattle.transmit.proofs.raise.Statement.{statement}
 use Rattle.transmit.proofs.raise.Tie as tie
 
-abbrev Inv-loop : tie.InvT-loop
-Inv-loop ring records₀ max-ack latest-ts reach i₀ records i =
-    (i ≤ ring .reach) × (length records ≡ length records₀)
-    × ((room : List ℕ) → raisedFrom max-ack latest-ts ring i (ring .reach - i) (storeOf 8 (lists records room)) ≡ raisedFrom max-ack latest-ts ring 0 (ring .reach) (storeOf 8 (lists records₀ room)))
+slots-in-requires : tie.Need-slots-in-requires
+slots-in-requires c κs = search needs
 
-abbrev μ-loop : tie.MeasureT-loop
-μ-loop ring records₀ max-ack latest-ts reach i₀ records i = ring .reach - i
+cast-start : tie.Need-cast-start
+cast-start c = search needs
 
-cast-reach : tie.Need-cast-reach Inv-loop μ-loop
-cast-reach c = omega arith
+cast-reach : tie.Need-cast-reach
+cast-reach c = search needs
 
-loop-holds : tie.Need-loop-holds Inv-loop μ-loop
-loop-holds c =
-    let a = c .before .before .args in
-    (omega arith, refl, λ room. walk-all (a .max-ack) (a .latest-ts) (a .ring) (storeOf 8 (lists (a .records .now) room)))
+sub-least : tie.Need-sub-least
+sub-least c = search needs
 
-raise-one-requires : tie.Need-raise-one-requires Inv-loop μ-loop
-raise-one-requires c κs =
-    let e = c .before .before .loop .inv .1 in
-    let d = ap (λ (n : ℕ). n / 9) e in
-    (omega arith, (omega arith, omega arith))
+least-requires : tie.Need-least-requires
+least-requires c κs = search needs
 
-add-i : tie.Need-add-i Inv-loop μ-loop
-add-i c = omega arith
+add-raise-run : tie.Need-add-raise-run
+add-raise-run c = search needs
 
-loop-less : tie.Need-loop-less Inv-loop μ-loop
-loop-less c = omega arith
+raise-run-requires : tie.Need-raise-run-requires
+raise-run-requires c κs = search needs
 
-loop-again : tie.Need-loop-again Inv-loop μ-loop
-loop-again c =
-    let a = c .before .before .before .before .before .before .before .before .args in
-    let l = c .before .before .before .before .before .loop in (
-      omega arith,
-      omega arith,
-      λ room. walk-more (a .max-ack) (a .latest-ts) (a .ring) (storeOf 8 (lists (l .records) room)) (l .i) (omega arith) (c .before .before .raise-one .ensures room) ∙ l .inv .2 room,
-    )
+sub-raise-run : tie.Need-sub-raise-run
+sub-raise-run c = search needs
 
-same-length : tie.Need-same-length Inv-loop μ-loop
-same-length c = omega arith
+raise-run-requires-2 : tie.Need-raise-run-requires-2
+raise-run-requires-2 c κs = search needs
 
-returns : tie.Need-returns Inv-loop μ-loop
+same-length : tie.Need-same-length
+same-length c = search needs
+
+returns : tie.Need-returns
 returns c =
-    let a = c .before .before .before .before .args in
-    let l = c .before .loop in
-    λ room. sym (walk-end (a .max-ack) (a .latest-ts) (a .ring) (storeOf 8 (lists (l .records) room)) (l .i) (omega arith)) ∙ l .inv .2 room
+    let e = c .before .before in
+    let d = e .before .before .before .before in
+    let n = d .before .before in
+    let l = n .before .before .before in
+    let s = l .before .before in
+    let a = s .args in
+    λ room. runs-done (a .max-ack) (a .latest-ts) (a .ring) (a .records .now) room (l .slots-in .ensures) (s .pre .1 .0) (n .least .ensures) (d .raise-run .ensures room) (e .raise-run2 .ensures room)
 
 pub raise-spec : {M : Type 1} → statement M
 raise-spec =
     tie.close
     (tie.spec
-    Inv-loop
-    μ-loop
+    slots-in-requires
+    cast-start
     cast-reach
-    loop-holds
-    raise-one-requires
-    add-i
-    loop-less
-    loop-again
+    sub-least
+    least-requires
+    add-raise-run
+    raise-run-requires
+    sub-raise-run
+    raise-run-requires-2
     same-length
     returns)
