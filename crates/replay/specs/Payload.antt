@@ -1,10 +1,9 @@
--- The payloads of the sample, and the sum by which it holds the bytes of a message (the head of oracle/driver/src/bin/sample.rs).
--- Assumes nothing.
+-- The bytes that are sent, and the sum by which a step holds what comes out (the head of oracle/driver/src/bin/sample.rs). Assumes nothing.
 use Prim.Native.Nat.{ℕ, zero, suc, _+_, _%_}
 use mathlib.Core.List.{List, [], _∷_}
 use Rattle.serial.specs.Wrap.{add32, mul32}
 
--- "the sum over the bytes handed out of byte * (index + 1), modulo 2^32": from a place and a sum on
+-- "A sum is that of number * (index + 1), modulo 2^32": from a place and a sum on
 unfoldable pub sumFrom : ℕ → ℕ → List ℕ → ℕ
 sumFrom place sum [] = sum
 sumFrom place sum (b ∷ bs) = sumFrom (add32 place 1) (add32 sum (mul32 b (add32 place 1))) bs
@@ -12,7 +11,7 @@ sumFrom place sum (b ∷ bs) = sumFrom (add32 place 1) (add32 sum (mul32 b (add3
 abbrev pub sumOf : List ℕ → ℕ
 sumOf bs = sumFrom 0 0 bs
 
--- n bytes, "the one at index i being (byte + i) mod 256"
+-- n bytes: "the byte at index i is (byte + 7 i) mod 256"
 unfoldable pub rising : ℕ → ℕ → List ℕ
 rising byte zero = []
-rising byte (suc n) = byte ∷ rising ((byte + 1) % 256) n
+rising byte (suc n) = byte ∷ rising ((byte + 7) % 256) n
