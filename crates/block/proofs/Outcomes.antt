@@ -5,14 +5,12 @@ use mathlib.Core.Bool.{Bool, true, false, _&&_}
 use lib.ListN.{length}
 use Rattle.serial.specs.Branch.{pick, pick-true, pick-false}
 use Rattle.block.specs.declared.Kcp.{Kcp}
-use Rattle.block.specs.declared.make.Made.{Made}
 use Rattle.block.specs.declared.make.Made.the-variants.{Block, Refused}
 use Rattle.block.specs.declared.refusal.Refusal.the-variants.{BadPool, InvalidMtu}
 use Rattle.block.specs.declared.refusal.Answer.the-variants.{Done, Refused as AnswerRefused}
 use Rattle.block.specs.Sizes.{mtuSize, mssOf, receiveSizes, sendSizes, ackSizes}
 use Rattle.block.specs.Fresh.{Lent, lentSizes, madeOf, Makes}
 use Rattle.block.specs.Parts.{withSettings, withMtu}
-use Rattle.block.specs.declared.set.Set.{Set}
 use Rattle.block.specs.Setters.{setMtu, MtuSet}
 
 -- the answers of the five calls that test the lent sizes, put together
@@ -33,10 +31,6 @@ module _ {m : Lent} {k : Kcp} where
   unfolding madeOf
   not-made h = record { answer = sym (pick-false _ _ h); refusal = sym (pick-false _ _ h); values = refl }
 
-  -- two answers that meet a constructor's contract are the same
-  pub made-once : {r s : Made} → Makes m k r → Makes m k s → r ≡ s
-  made-once p q = p .answer ∙ sym (q .answer)
-
 module _ {k : Kcp} {mtu : ℕ} where
   pub mtu-set : {b : Kcp} → mtuSize mtu ≡ true → b ≡ withSettings k (withMtu (k .settings) mtu (mssOf mtu)) → MtuSet k mtu (record { block = b; answer = Done })
   unfolding setMtu
@@ -46,7 +40,3 @@ module _ {k : Kcp} {mtu : ℕ} where
   pub mtu-refused : mtuSize mtu ≡ false → MtuSet k mtu (record { block = k; answer = AnswerRefused (InvalidMtu mtu) })
   unfolding setMtu
   mtu-refused h = record { outcome = sym (pick-false _ _ h); refusal = sym (pick-false _ _ h); values = sym (pick-false _ _ h) }
-
-  -- two outcomes that meet its contract are the same
-  pub mtu-once : {r s : Set} → MtuSet k mtu r → MtuSet k mtu s → r ≡ s
-  mtu-once p q = p .outcome ∙ sym (q .outcome)

@@ -9,18 +9,18 @@ use Rattle.block.specs.declared.Kcp.{Kcp}
 use Rattle.words.specs.Words.{blockOf, isBlock}
 use Rattle.wire.specs.declared.Number.{Number}
 use Rattle.wire.specs.declared.Number.the-variants.{Is, ShortHeader}
-use Rattle.kcp_c.specs.Told.{Told}
+use Rattle.kcp_c.specs.Answered.{Answered}
 use Rattle.kcp_c.specs.Tests.{tested}
 
-pub told-short : {r answer : Number} (before : ℕ) → r ≡ answer → r ≡ ShortHeader → Told answer before 16 before
-told-short before e s = rw (sym e ∙ s) (record { refusal = refl; place = refl })
+pub answered-short : {r answer : Number} (before : ℕ) → r ≡ answer → r ≡ ShortHeader → Answered answer before 16 before
+answered-short before e s = rw (sym e ∙ s) (record { refusal = refl; place = refl })
 
-pub told-is : {r answer : Number} (before n : ℕ) → r ≡ answer → r ≡ Is n → Told answer before 0 n
-told-is before n e s = rw (sym e ∙ s) (record { refusal = refl; place = refl })
+pub answered-is : {r answer : Number} (before n : ℕ) → r ≡ answer → r ≡ Is n → Answered answer before 0 n
+answered-is before n e s = rw (sym e ∙ s) (record { refusal = refl; place = refl })
 
 -- any two answers, and any two numbers at the place afterwards, that meet the promise coincide
-pub told-one : {answer : Number} {before r r′ after after′ : ℕ} → Told answer before r after → Told answer before r′ after′ → (r ≡ r′) × (after ≡ after′)
-told-one t u = (t .refusal ∙ sym (u .refusal), t .place ∙ sym (u .place))
+pub answered-one : {answer : Number} {before r r′ after after′ : ℕ} → Answered answer before r after → Answered answer before r′ after′ → (r ≡ r′) × (after ≡ after′)
+answered-one t u = (t .refusal ∙ sym (u .refusal), t .place ∙ sym (u .place))
 
 -- of t, which tells whether the words l are a block, the code asks whether it fails; then b tells whether block and memory are well formed
 module _ (fits : Kcp → Bool) (l : List ℕ) {t : Bool} (e : t ≡ isBlock l) where

@@ -1,3 +1,3 @@
-pub mod Told
+pub mod Answered
 pub mod Numbers
 pub mod Tests

@@ -5,7 +5,7 @@ ghost use Rattle.serial.specs.Wrap.{timediff};
 ghost use Rattle.wire.specs.Header.{convOf, snOf, headerAt, headerBytes};
 ghost use Rattle.wire.specs.Helpers.{got, putOf, numberOfPut, withConv};
 ghost use Rattle.estimator.specs.Estimate.{measured};
-ghost use Rattle.kcp_c.specs.Told.{Told};
+ghost use Rattle.kcp_c.specs.Answered.{Answered};
 ghost use Rattle.kcp_c.specs.Numbers.{header, headerNumbers, estimator, estimatorNumbers};
 use estimator::Estimator;
 use wire::Header;
@@ -37,7 +37,7 @@ pub extern "C" fn kcp_bound(low: u32, x: u32, high: u32) -> u32
 // The conversation of the header at the front of `buf`, put into `conv`; 0, or 16 under 24 bytes.
 #[no_mangle]
 pub extern "C" fn kcp_get_conv(buf: &[u8], conv: &mut u32) -> u32
-    ensures { λ r. ⌜ Told (got convOf (now (buf .entry))) (now (conv .entry)) r (now (conv .exit)) ⌝ }
+    ensures { λ r. ⌜ Answered (got convOf (now (buf .entry))) (now (conv .entry)) r (now (conv .exit)) ⌝ }
 {
     let answer = wire::get_conv(buf);
     let Number::Is(n) = answer else {
@@ -50,7 +50,7 @@ pub extern "C" fn kcp_get_conv(buf: &[u8], conv: &mut u32) -> u32
 // The number of the segment whose header stands at the front of `buf`, put into `sn`; 0, or 16 under 24 bytes.
 #[no_mangle]
 pub extern "C" fn kcp_get_sn(buf: &[u8], sn: &mut u32) -> u32
-    ensures { λ r. ⌜ Told (got snOf (now (buf .entry))) (now (sn .entry)) r (now (sn .exit)) ⌝ }
+    ensures { λ r. ⌜ Answered (got snOf (now (buf .entry))) (now (sn .entry)) r (now (sn .exit)) ⌝ }
 {
     let answer = wire::get_sn(buf);
     let Number::Is(n) = answer else {

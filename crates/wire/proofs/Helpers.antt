@@ -1,4 +1,4 @@
--- What the helpers' promises are under 24 bytes and from there on, and that they leave no choice. Assumes nothing.
+-- What the helpers' promises are under 24 bytes and from there on. Assumes nothing.
 use Prim.Native.Nat.{ℕ, _^_, _≤_, _<_}
 use mathlib.Core.Path.{_≡_, refl, sym, ap, _∙_}
 use mathlib.Core.List.{List, [], _∷_, _++_}
@@ -8,9 +8,7 @@ use native.Mathlib.Omega.{arith}
 use borrow.Author.Tests.{lt-ltb, le-ltb}
 use Rattle.serial.specs.Branch.{pick-true, pick-false}
 use Rattle.wire.specs.declared.Header.{Header}
-use Rattle.wire.specs.declared.Number.{Number}
 use Rattle.wire.specs.declared.Number.the-variants.{Is, ShortHeader}
-use Rattle.wire.specs.declared.Put.{Put}
 use Rattle.wire.specs.declared.Put.the-variants.{Done, ShortHeader as PutShortHeader}
 use Rattle.wire.specs.declared.Four.{Four}
 use Rattle.wire.specs.LittleEndian.{leBytes, Split}
@@ -60,10 +58,3 @@ set-got s conv whole fits =
     let e : withConv s conv ≡ leBytes 4 conv ++ drop 4 s = pick-false _ _ (le-ltb (length s) 24 whole) in
     let l : 24 ≤ length (leBytes 4 conv ++ drop 4 s) = simp length-drop (omega arith) in
     ap (got convOf) e ∙ pick-false _ _ (le-ltb _ 24 l) ∙ ap Is (number-leBytes 4 conv fits)
-
--- any two answers, and any two lists of bytes afterwards, that meet a promise coincide
-pub got-one : {field : Header → ℕ} {s : List ℕ} {r r′ : Number} → Got field s r → Got field s r′ → r ≡ r′
-got-one p q = p .answer ∙ sym (q .answer)
-
-pub set-one : {s : List ℕ} {conv : ℕ} {r r′ : Put} {after after′ : List ℕ} → ConvSet s conv r after → ConvSet s conv r′ after′ → (r ≡ r′) × (after ≡ after′)
-set-one p q = (p .answer ∙ sym (q .answer), p .bytes ∙ sym (q .bytes))

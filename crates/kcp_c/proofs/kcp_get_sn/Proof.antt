@@ -1,5 +1,5 @@
 -- `kcp_c::kcp_get_sn` meets its contract. The law of each answer of `wire::get_sn`. Assumes nothing.
-use Rattle.kcp_c.proofs.Laws.{told-short, told-is}
+use Rattle.kcp_c.proofs.Laws.{answered-short, answered-is}
 use borrow.Author.Needs.{needs}
 use Rattle.kcp_c.proofs.kcp_get_sn.Statement.{statement}
 use Rattle.kcp_c.proofs.kcp_get_sn.Tie as tie
@@ -14,10 +14,10 @@ enum-told : tie.Need-enum-told
 enum-told c = search needs
 
 returns : tie.Need-returns
-returns c = told-short _ (c .before .before .get-sn .ensures .answer) (c .enum-told .given .1)
+returns c = answered-short _ (c .before .before .get-sn .ensures .answer) (c .enum-told .given .1)
 
 returns-2 : tie.Need-returns-2
-returns-2 c = told-is _ _ (c .before .before .before .get-sn .ensures .answer) (c .before .answer .given .1)
+returns-2 c = answered-is _ _ (c .before .before .before .get-sn .ensures .answer) (c .before .answer .given .1)
 
 pub kcp-get-sn-spec : {M : Type 1} → statement M
 kcp-get-sn-spec =

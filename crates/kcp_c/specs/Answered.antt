@@ -11,6 +11,6 @@ abbrev pub put : Number → ℕ → ℕ
 put (Is n) before = n
 put ShortHeader before = before
 
-pub record Told (answer : Number) (before r after : ℕ) : Type 0 where
+pub record Answered (answer : Number) (before r after : ℕ) : Type 0 where
   pub refusal : r ≡ numberOf answer
   pub place : after ≡ put answer before
