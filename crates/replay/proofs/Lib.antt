@@ -1,1 +1,7 @@
+-- `Zeros` has the buffers of zeros, `Loops` the loops over numbers and bytes, `Branches` the choice of a call by its code, `Whole` whether a whole step is
+-- left, `Held` how many segments are held.
+pub mod Zeros
 pub mod Loops
+pub mod Branches
+pub mod Whole
+pub mod Held

@@ -1,4 +1,6 @@
-pub mod Payload
-pub mod Table
+pub mod Sums
+pub mod Rows
+pub mod Answers
+pub mod Looks
 pub mod Calls
-pub mod Agree
+pub mod Judge

@@ -1,140 +1,48 @@
-// The calls of the sample, made on the port.
+// The calls that change lent memory, made on the port.
 ghost use mathlib.Core.Path.{_≡_};
-ghost use Prim.Native.Nat.{_≤_, _-_};
-ghost use mathlib.Core.List.{_++_};
-ghost use lib.ListN.{length, drop};
+ghost use Prim.Native.Nat.{_%_};
+ghost use lib.ListN.{length};
 ghost use Rattle.ring.specs.Lists.{lists};
-ghost use Rattle.receive.specs.Memory.{numberOfLength};
-ghost use Rattle.wire.specs.Header.{headerBytes};
-ghost use Rattle.block.specs.Refusals.{numberOfBytes};
-ghost use Rattle.kcp_receive.specs.Calls.{moveBufOf, peeksizeOf, recvOf, setWndsizeOf};
-ghost use Rattle.kcp_input.specs.Input.{inputOf};
-ghost use Rattle.replay.specs.Calls.{lengthIn, madeBySet, madeByLength, madeByRecv, madeByInput, pushHeader, heldIn, numbersOf};
-ghost use Rattle.replay.specs.Payload.{rising};
-use crate::low8;
-use crate::payload::checksum;
-use crate::payload::fill;
-use crate::table::Answer;
-use crate::table::Call;
-use crate::table::Numbers;
-use crate::wide;
+ghost use Rattle.snd_ring.specs.Store.{storeOf};
+ghost use Rattle.packing.specs.FlushAck.{writing};
+ghost use Rattle.kcp_send.specs.Send.{sendOf};
+ghost use Rattle.replay.specs.Sums.{rising, zeros};
+ghost use Rattle.replay.specs.Answers.{ofOut};
+ghost use Rattle.replay.specs.Looks.{made};
+ghost use Rattle.replay.specs.Calls.{memoryOf, inputStep, bySend, sendStep, flushAckStep, flushedOf, flushStep, playOf};
+use crate::answers::of_bytes;
+use crate::answers::of_out;
+use crate::looks::Made;
+use crate::looks::look;
+use crate::looks::unplayed;
+use crate::rows::Row;
+use crate::rows::wide;
+use crate::sums::fill;
+use crate::sums::sum_of_bytes;
+use crate::sums::sum_of_lengths;
 use block::Kcp;
-use block::refusal::Bytes;
-use block::set::Set;
-use receive::Length;
-use wire::Header;
+use output::Out;
 
-// The block after a call, and what the call answered.
-pub struct Made {
-    pub block: Kcp,
-    pub answer: Answer,
-}
+// The longest message.
+const MESSAGE: usize = 4096;
 
-// The refusal's number, or 0.
-fn number_of(answer: Length) -> u32
-    ensures { λ r. ⌜ r ≡ numberOfLength answer ⌝ }
-{
-    match answer {
-        Length::Is { length: _ } => 0,
-        Length::Refused { why } => why.number(),
-    }
-}
-
-// The length, 0 beside a refusal.
-fn length_of(answer: Length) -> usize
-    ensures { λ r. ⌜ r ≡ lengthIn answer ⌝ }
-{
-    match answer {
-        Length::Is { length } => length,
-        Length::Refused { why: _ } => 0,
-    }
-}
-
-// What a call that answers a length left; `sum` is that of the bytes handed out.
-fn made_by_length(block: Kcp, answer: Length, sum: u32) -> Made
-    ensures { λ r. ⌜ r ≡ madeByLength block answer sum ⌝ }
-{
-    Made {
-        block: block,
-        answer: Answer {
-            refusal: number_of(answer),
-            length: length_of(answer),
-            sum: sum,
-            skipped: 0,
-        },
-    }
-}
-
-// What a setter left.
-fn made_by_set(set: Set) -> Made
-    ensures { λ r. ⌜ r ≡ madeBySet set ⌝ }
-{
-    let block = set.block;
-    let answer = set.answer;
-    Made {
-        block: block,
-        answer: Answer {
-            refusal: answer.number(),
-            length: 0,
-            sum: 0,
-            skipped: 0,
-        },
-    }
-}
-
-fn move_buf(block: Kcp, records: &[u32], room: &[u8]) -> Made
-    ensures { λ r. ⌜ r ≡ madeBySet (moveBufOf block (lists (now (records .entry)) (now (room .entry)))) ⌝ }
-{
-    made_by_set(kcp_receive::move_buf(block, records, room))
-}
-
-fn set_wndsize(block: Kcp, sndwnd: u16, rcvwnd: u16, records: &[u32], room: &[u8]) -> Made
-    ensures { λ r. ⌜ r ≡ madeBySet (setWndsizeOf block (lists (now (records .entry)) (now (room .entry))) sndwnd rcvwnd) ⌝ }
-{
-    made_by_set(kcp_receive::set_wndsize(block, sndwnd, rcvwnd, records, room))
-}
-
-fn peeksize(block: Kcp, records: &[u32], room: &[u8]) -> Made
-    ensures { λ r. ⌜ r ≡ madeByLength block (peeksizeOf block (lists (now (records .entry)) (now (room .entry)))) 0 ⌝ }
-{
-    made_by_length(block, kcp_receive::peeksize(block, records, room), 0)
-}
-
-fn recv(block: Kcp, records: &[u32], room: &[u8], buf: &mut [u8]) -> Made
-    ensures { λ r. ⌜ r ≡ madeByRecv (recvOf block (lists (now (records .entry)) (now (room .entry))) (now (buf .entry))) ⌝ }
-{
-    let received = kcp_receive::recv(block, records, room, buf);
-    let after = received.block;
-    let answer = received.answer;
-    made_by_length(after, answer, checksum(buf, length_of(answer)))
-}
-
-// The refusal's number, or 0, of an answer that counts bytes.
-fn number_of_bytes(answer: Bytes) -> u32
-    ensures { λ r. ⌜ r ≡ numberOfBytes answer ⌝ }
-{
-    match answer {
-        Bytes::Are { count: _ } => 0,
-        Bytes::Refused { why } => why.number(),
-    }
-}
-
-fn input(
+fn input_step(
     block: Kcp,
-    records: &mut [u32],
-    room: &mut [u8],
+    rcv_records: &mut [u32],
+    rcv_room: &mut [u8],
     snd_records: &mut [u32],
     snd_room: &[u8],
     acks: &mut [u32],
     waiting: &[u8],
     datagram: &[u8],
 ) -> Made
-    ensures { λ r. ⌜ r ≡ madeByInput (inputOf block (lists (now (records .entry)) (now (room .entry))) (now (acks .entry)) (now (waiting .entry)) (lists (now («snd_records» .entry)) (now («snd_room» .entry))) (now (datagram .entry))) ⌝ }
+    ensures { λ r. ⌜ record { memory = memoryOf (r .block) (now («rcv_records» .exit)) (now («rcv_room» .exit)) (now («snd_records» .exit)) (now («snd_room» .entry)) (now (acks .exit)) (now (waiting .entry)); answer = r .answer }
+        ≡ inputStep (memoryOf block (now («rcv_records» .entry)) (now («rcv_room» .entry)) (now («snd_records» .entry)) (now («snd_room» .entry)) (now (acks .entry)) (now (waiting .entry))) (now (datagram .entry)) ⌝ }
 {
     let out = kcp_input::input(
         block,
-        records,
-        room,
+        rcv_records,
+        rcv_room,
         snd_records,
         snd_room,
         acks,
@@ -145,207 +53,206 @@ fn input(
     let answer = out.answer;
     Made {
         block: after,
-        answer: Answer {
-            refusal: number_of_bytes(answer),
-            length: 0,
-            sum: 0,
-            skipped: out.skipped,
-        },
+        answer: of_bytes(answer, out.skipped),
     }
 }
 
-// What is put down for a step that is none of the sample's: no refusal has this number, so that it agrees with no row.
-const UNKNOWN: u32 = 4294967295;
-
-// The least word of a segment.
-const SEGMENT: u32 = 65536;
-
-fn unknown(block: Kcp) -> Made
-    ensures { λ r. ⌜ r .answer .refusal ≡ 4294967295 ⌝ }
+fn low8(x: u32) -> u8
+    ensures { λ r. ⌜ r ≡ x % 256 ⌝ }
 {
-    Made {
-        block: block,
-        answer: Answer {
-            refusal: UNKNOWN,
-            length: 0,
-            sum: 0,
-            skipped: 0,
-        },
-    }
+    (x % 256) as u8
 }
 
-// The header of a push that says of the block only what the block has already: its conv, the peer's window and snd_una.
-fn push_header(block: Kcp, sn: u32, frg: u8, ts: u32, len: u32) -> Header
-    ensures { λ r. ⌜ r ≡ pushHeader block sn frg ts len ⌝ }
+fn zeros_4096() -> [u8; 4096]
+    ensures { λ r. ⌜ r ≡ zeros 4096 ⌝ }
+    ensures { λ r. ⌜ 4096 ≡ length r ⌝ }
 {
-    Header {
-        conv: block.settings.conv,
-        cmd: wire::PUSH,
-        frg: frg,
-        wnd: block.congestion.rmt_wnd,
-        ts: ts,
-        sn: sn,
-        una: block.sender.snd_una,
-        len: len,
-    }
+    [0; 4096]
 }
 
-// Writes the datagram of one segment: the header, and after it `byte` and those after it.
-fn put_segment(datagram: &mut [u8], header: Header, byte: u8)
-    requires { ⌜ 24 ≤ length (now datagram) ⌝ }
-    ensures { λ _. ⌜ now (datagram .exit) ≡ headerBytes header ++ rising byte (length (now (datagram .entry)) - 24) ⌝ }
+fn zeros_16384() -> [u8; 16384]
+    ensures { λ r. ⌜ r ≡ zeros 16384 ⌝ }
+    ensures { λ r. ⌜ 16384 ≡ length r ⌝ }
 {
-    fill(&mut datagram[24..], byte);
-    let front = header.bytes();
-    bytes::copy(&front, datagram);
+    [0; 16384]
 }
 
-// A push of the sample as a datagram, made in `part`, which is as long.
-fn push_in(
+fn zeros_1024() -> [u16; 1024]
+    ensures { λ r. ⌜ r ≡ zeros 1024 ⌝ }
+    ensures { λ r. ⌜ 1024 ≡ length r ⌝ }
+{
+    [0; 1024]
+}
+
+// Sends the message that `message` is filled with.
+fn send_in(
     block: Kcp,
-    records: &mut [u32],
-    room: &mut [u8],
-    snd_records: &mut [u32],
-    snd_room: &[u8],
-    acks: &mut [u32],
-    waiting: &[u8],
-    header: Header,
     byte: u8,
-    part: &mut [u8],
+    snd_records: &mut [u32],
+    snd_room: &mut [u8],
+    message: &mut [u8],
 ) -> Made
-    requires { ⌜ 24 ≤ length (now part) ⌝ }
-    ensures { λ r. ⌜ r ≡ madeByInput (inputOf block (lists (now (records .entry)) (now (room .entry))) (now (acks .entry)) (now (waiting .entry)) (lists (now («snd_records» .entry)) (now («snd_room» .entry))) (headerBytes header ++ rising byte (length (now (part .entry)) - 24))) ⌝ }
+    ensures { λ r. ⌜ record { block = r .block; answer = r .answer; snd = lists (now («snd_records» .exit)) (now («snd_room» .exit)) }
+        ≡ bySend (sendOf block (lists (now («snd_records» .entry)) (now («snd_room» .entry))) (rising byte (length (now (message .entry))))) ⌝ }
 {
-    put_segment(part, header, byte);
-    input(
+    fill(message, byte);
+    let out = kcp_send::send(block, snd_records, snd_room, message);
+    let after = out.block;
+    let answer = out.answer;
+    Made {
+        block: after,
+        answer: of_bytes(answer, 0),
+    }
+}
+
+fn send_step(block: Kcp, row: Row, snd_records: &mut [u32], snd_room: &mut [u8]) -> Made
+    ensures { λ r. ⌜ record { block = r .block; answer = r .answer; snd = lists (now («snd_records» .exit)) (now («snd_room» .exit)) } ≡ sendStep row block (lists (now («snd_records» .entry)) (now («snd_room» .entry))) ⌝ }
+{
+    let len = wide(row.a);
+    if MESSAGE < len {
+        return unplayed(block);
+    }
+    let mut message = zeros_4096();
+    send_in(
         block,
-        records,
-        room,
+        low8(row.b),
         snd_records,
         snd_room,
-        acks,
-        waiting,
-        part,
+        &mut message[..len],
     )
 }
 
-// A push of the sample, its datagram made in `buf`. One that asks for more bytes than that has is unknown.
-fn push_step(
-    block: Kcp,
-    call: Call,
-    records: &mut [u32],
-    room: &mut [u8],
-    snd_records: &mut [u32],
-    snd_room: &[u8],
-    acks: &mut [u32],
-    waiting: &[u8],
-    buf: &mut [u8],
-) -> Made {
-    let len = wire::OVERHEAD + wide(call.fourth);
-    if buf.len() < len {
-        return unknown(block);
+// What a flush left, with the sums over what it wrote.
+fn by_out(out: Out, lengths: u32, sum: u32) -> Made
+    ensures { λ r. ⌜ r ≡ made (out .block) (ofOut (out .answer) (out .datagrams) lengths sum) ⌝ }
+{
+    let after = out.block;
+    let answer = out.answer;
+    Made {
+        block: after,
+        answer: of_out(answer, out.datagrams, lengths, sum),
     }
-    let header = push_header(
-        block,
-        call.first,
-        low8(call.second),
-        call.third,
-        call.fourth,
-    );
-    push_in(
-        block,
-        records,
-        room,
-        snd_records,
-        snd_room,
-        acks,
-        waiting,
-        header,
-        low8(call.fifth),
-        &mut buf[..len],
-    )
 }
 
-// A recv of the sample, into the first bytes of `buf`. One that asks for more than that has is unknown.
-fn recv_step(block: Kcp, call: Call, records: &[u32], room: &[u8], buf: &mut [u8]) -> Made {
-    let len = wide(call.first);
-    if buf.len() < len {
-        return unknown(block);
-    }
-    recv(block, records, room, &mut buf[..len])
+fn flush_ack_step(block: Kcp, acks: &[u32], waiting: &mut [u8]) -> Made
+    ensures { λ r. ⌜ record { block = r .block; answer = r .answer; waiting = now (waiting .exit) } ≡ flushAckStep block (now (acks .entry)) (now (waiting .entry)) ⌝ }
+{
+    let mut out = zeros_16384();
+    let mut lengths = zeros_1024();
+    let sent = kcp_flush::flush_ack(block, acks, waiting, &mut out, &mut lengths);
+    by_out(sent, sum_of_lengths(&lengths), sum_of_bytes(&out))
 }
 
-// The call that the step names, by its code.
-pub fn make(
+// flush or update.
+fn flushed(
     block: Kcp,
-    call: Call,
-    records: &mut [u32],
-    room: &mut [u8],
+    row: Row,
     snd_records: &mut [u32],
     snd_room: &[u8],
-    acks: &mut [u32],
+    acks: &[u32],
     waiting: &[u8],
-    buf: &mut [u8],
-) -> Made {
-    let code = call.code;
-    match code {
-        1 => push_step(
+    out: &mut [u8],
+    lengths: &mut [u16],
+) -> Out
+    ensures { λ r. ⌜ record {
+          out = record { block = r .block; answer = r .answer; datagrams = r .datagrams; written = writing (now (waiting .entry)) (now (out .exit)) (now (lengths .exit)) };
+          store = storeOf 8 (lists (now («snd_records» .exit)) (now («snd_room» .entry)));
+        } ≡ flushedOf row block (lists (now («snd_records» .entry)) (now («snd_room» .entry))) (now (acks .entry)) (writing (now (waiting .entry)) (now (out .entry)) (now (lengths .entry))) ⌝ }
+{
+    if row.code == 3 {
+        return kcp_flush::flush(
             block,
-            call,
-            records,
-            room,
             snd_records,
             snd_room,
             acks,
             waiting,
-            buf,
-        ),
-        2 => recv_step(block, call, records, room, buf),
-        3 => peeksize(block, records, room),
-        4 => move_buf(block, records, room),
-        5 => set_wndsize(
-            block,
-            serial::low16(call.first),
-            serial::low16(call.second),
-            records,
-            room,
-        ),
-        _ => unknown(block),
+            out,
+            lengths,
+        );
     }
+    kcp_flush::update(
+        block,
+        row.a,
+        snd_records,
+        snd_room,
+        acks,
+        waiting,
+        out,
+        lengths,
+    )
 }
 
-// How many segments are held, by the words of the ring: those in reach that are a segment's. A block or memory that is not well formed holds a number
-// that no row of the sample has.
-fn held_in(block: Kcp, records: &[u32], room: &[u8]) -> u32
-    ensures { λ r. ⌜ r ≡ heldIn block (lists (now (records .entry)) (now (room .entry))) ⌝ }
+fn flush_step(
+    block: Kcp,
+    row: Row,
+    snd_records: &mut [u32],
+    snd_room: &[u8],
+    acks: &[u32],
+    waiting: &[u8],
+) -> Made
+    ensures { λ r. ⌜ record { block = r .block; answer = r .answer; waiting = now (waiting .entry); snd = lists (now («snd_records» .exit)) (now («snd_room» .entry)) }
+        ≡ flushStep row block (lists (now («snd_records» .entry)) (now («snd_room» .entry))) (now (acks .entry)) (now (waiting .entry)) ⌝ }
 {
-    if !receive::fits(block.own_numbers(), block.receiver, records, room) {
-        return UNKNOWN;
-    }
-    let ring = block.receiver.ring;
-    let counts = ring::tally(
-        records,
-        ring.start as usize,
-        ring.queued as usize,
-        ring.reach as usize,
-        SEGMENT,
-        SEGMENT,
+    let mut out = zeros_16384();
+    let mut lengths = zeros_1024();
+    let sent = flushed(
+        block,
+        row,
+        snd_records,
+        snd_room,
+        acks,
+        waiting,
+        &mut out,
+        &mut lengths,
     );
-    counts.low
+    by_out(sent, sum_of_lengths(&lengths), sum_of_bytes(&out))
 }
 
-// The receive numbers of the block, and of its ring.
-pub fn numbers(block: Kcp, records: &[u32], room: &[u8]) -> Numbers
-    ensures { λ r. ⌜ r ≡ numbersOf block (lists (now (records .entry)) (now (room .entry))) ⌝ }
+// The call that the step names.
+pub fn make(
+    block: Kcp,
+    row: Row,
+    handed: &[u8],
+    rcv_records: &mut [u32],
+    rcv_room: &mut [u8],
+    snd_records: &mut [u32],
+    snd_room: &mut [u8],
+    acks: &mut [u32],
+    waiting: &mut [u8],
+) -> Made
+    ensures { λ r. ⌜ record { memory = memoryOf (r .block) (now («rcv_records» .exit)) (now («rcv_room» .exit)) (now («snd_records» .exit)) (now («snd_room» .exit)) (now (acks .exit)) (now (waiting .exit)); answer = r .answer }
+        ≡ playOf row (now (handed .entry)) (memoryOf block (now («rcv_records» .entry)) (now («rcv_room» .entry)) (now («snd_records» .entry)) (now («snd_room» .entry)) (now (acks .entry)) (now (waiting .entry))) ⌝ }
 {
-    let receiver = block.receiver;
-    let ring = receiver.ring;
-    Numbers {
-        rcv_nxt: receiver.rcv_nxt,
-        rcv_wnd: receiver.rcv_wnd as u32,
-        queued: ring.queued,
-        held: held_in(block, records, room),
-        acks: block.acklist.acks,
-        probe: block.probe.bits,
+    if row.code == 0 {
+        return input_step(
+            block,
+            rcv_records,
+            rcv_room,
+            snd_records,
+            snd_room,
+            acks,
+            waiting,
+            handed,
+        );
     }
+    if row.code == 1 {
+        return send_step(block, row, snd_records, snd_room);
+    }
+    if row.code == 2 {
+        return flush_ack_step(block, acks, waiting);
+    }
+    if row.code < 5 {
+        return flush_step(block, row, snd_records, snd_room, acks, waiting);
+    }
+    look(
+        block,
+        row,
+        handed,
+        rcv_records,
+        rcv_room,
+        snd_records,
+        snd_room,
+        acks,
+        waiting,
+    )
 }

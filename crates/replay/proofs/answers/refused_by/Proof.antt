@@ -1,0 +1,18 @@
+-- `replay::answers::refused_by` meets its contract. The refusal's number and its values. Assumes nothing.
+use Rattle.replay.specs.Answers.{refusedBy}
+use borrow.Author.Needs.{needs}
+use Rattle.replay.proofs.answers.refused_by.Statement.{statement}
+use Rattle.replay.proofs.answers.refused_by.Tie as tie
+
+values-requires : tie.Need-values-requires
+values-requires c κs = search needs
+
+number-requires : tie.Need-number-requires
+number-requires c κs = search needs
+
+returns : tie.Need-returns
+unfolding refusedBy
+returns c = rw (c .number .ensures, c .before .values .ensures)
+
+pub refused-by-spec : {M : Type 1} → statement M
+refused-by-spec = tie.close (tie.spec values-requires number-requires returns)

@@ -1,0 +1,42 @@
+-- `replay::looks::setting_step` meets its contract. Either side of the test. Assumes nothing.
+use mathlib.Core.Path.{sym, ap, _∙_}
+use Rattle.replay.proofs.Branches.{is, other, under, over}
+use Rattle.replay.specs.Looks.{settingOf}
+use borrow.Author.Needs.{needs}
+use Rattle.replay.proofs.looks.setting_step.Statement.{statement}
+use Rattle.replay.proofs.looks.setting_step.Tie as tie
+
+wide-requires : tie.Need-wide-requires
+wide-requires c κs = search needs
+
+set-mtu-requires : tie.Need-set-mtu-requires
+set-mtu-requires c κs = search needs
+
+by-set-requires : tie.Need-by-set-requires
+by-set-requires c κs = search needs
+
+returns : tie.Need-returns
+unfolding settingOf
+returns c = c .by-set .ensures ∙ rw (c .before .set-mtu .ensures .is, c .before .before .wide .ensures .0) (sym (is _ _ (c .before .before .before .if1 .taken)))
+
+set-by-requires : tie.Need-set-by-requires
+set-by-requires c κs = search needs
+
+set-to-requires : tie.Need-set-to-requires
+set-to-requires c κs = search needs
+
+returns-2 : tie.Need-returns-2
+unfolding settingOf
+returns-2 c = c .set-to .ensures ∙ rw (c .before .set-by .ensures) (sym (other _ _ (c .before .before .if1 .left)))
+
+pub setting-step-spec : {M : Type 1} → statement M
+setting-step-spec =
+    tie.close
+    (tie.spec
+    wide-requires
+    set-mtu-requires
+    by-set-requires
+    returns
+    set-by-requires
+    set-to-requires
+    returns-2)

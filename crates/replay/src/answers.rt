@@ -1,0 +1,137 @@
+// What a call answers, as the numbers of a step.
+ghost use mathlib.Core.Path.{_≡_};
+ghost use Rattle.replay.specs.Answers.{told, refusedBy, short, unknown, ofAnswer, ofBytes, ofLength, ofWait, ofNumber, ofPut, ofOut};
+use block::refusal::Bytes;
+use block::refusal::Refusal;
+use kcp_flush::Wait;
+use receive::Length;
+use wire::Number;
+use wire::Put;
+
+// The refusal's number or 0, its values or the number that is answered, and the sum of what comes out.
+pub struct Answer {
+    pub refusal: u32,
+    pub first: usize,
+    pub second: usize,
+    pub sum: u32,
+}
+
+// No refusal has this number, so that the answer to a call that cannot be made agrees with no step.
+pub const UNKNOWN: u32 = 4294967295;
+
+pub fn unknown() -> Answer
+    ensures { λ r. ⌜ r ≡ unknown ⌝ }
+{
+    Answer {
+        refusal: UNKNOWN,
+        first: 0,
+        second: 0,
+        sum: 0,
+    }
+}
+
+// A call that is not refused.
+pub fn told(n: usize, sum: u32) -> Answer
+    ensures { λ r. ⌜ r ≡ told n sum ⌝ }
+{
+    Answer {
+        refusal: 0,
+        first: n,
+        second: 0,
+        sum: sum,
+    }
+}
+
+// A call that is.
+fn refused_by(why: Refusal, sum: u32) -> Answer
+    ensures { λ r. ⌜ r ≡ refusedBy why sum ⌝ }
+{
+    let values = why.values();
+    Answer {
+        refusal: why.number(),
+        first: values.first,
+        second: values.second,
+        sum: sum,
+    }
+}
+
+// A header helper that is.
+fn short(sum: u32) -> Answer
+    ensures { λ r. ⌜ r ≡ short sum ⌝ }
+{
+    Answer {
+        refusal: wire::SHORT_HEADER,
+        first: 0,
+        second: 0,
+        sum: sum,
+    }
+}
+
+pub fn of_answer(answer: block::refusal::Answer) -> Answer
+    ensures { λ r. ⌜ r ≡ ofAnswer answer ⌝ }
+{
+    match answer {
+        block::refusal::Answer::Done => told(0, 0),
+        block::refusal::Answer::Refused { why } => refused_by(why, 0),
+    }
+}
+
+pub fn of_bytes(answer: Bytes, sum: u32) -> Answer
+    ensures { λ r. ⌜ r ≡ ofBytes answer sum ⌝ }
+{
+    match answer {
+        Bytes::Are { count } => told(count, sum),
+        Bytes::Refused { why } => refused_by(why, sum),
+    }
+}
+
+pub fn of_length(answer: Length, sum: u32) -> Answer
+    ensures { λ r. ⌜ r ≡ ofLength answer sum ⌝ }
+{
+    match answer {
+        Length::Is { length } => told(length, sum),
+        Length::Refused { why } => refused_by(why, sum),
+    }
+}
+
+pub fn of_wait(answer: Wait) -> Answer
+    ensures { λ r. ⌜ r ≡ ofWait answer ⌝ }
+{
+    match answer {
+        Wait::Is { wait } => told(crate::rows::wide(wait), 0),
+        Wait::Refused { why } => refused_by(why, 0),
+    }
+}
+
+pub fn of_number(answer: Number) -> Answer
+    ensures { λ r. ⌜ r ≡ ofNumber answer ⌝ }
+{
+    match answer {
+        Number::Is(n) => told(crate::rows::wide(n), 0),
+        Number::ShortHeader => short(0),
+    }
+}
+
+pub fn of_put(answer: Put, sum: u32) -> Answer
+    ensures { λ r. ⌜ r ≡ ofPut answer sum ⌝ }
+{
+    match answer {
+        Put::Done => told(0, sum),
+        Put::ShortHeader => short(sum),
+    }
+}
+
+// How many datagrams went out, the sum of their lengths and that of their bytes.
+pub fn of_out(answer: block::refusal::Answer, datagrams: usize, lengths: u32, sum: u32) -> Answer
+    ensures { λ r. ⌜ r ≡ ofOut answer datagrams lengths sum ⌝ }
+{
+    match answer {
+        block::refusal::Answer::Done => Answer {
+            refusal: 0,
+            first: datagrams,
+            second: crate::rows::wide(lengths),
+            sum: sum,
+        },
+        block::refusal::Answer::Refused { why } => refused_by(why, sum),
+    }
+}
