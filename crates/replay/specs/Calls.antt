@@ -8,6 +8,7 @@ use Rattle.ring.specs.Lists.{Lists, lists}
 use Rattle.block.specs.declared.Kcp.{Kcp}
 use Rattle.block.specs.Fresh.{Lent}
 use Rattle.packing.specs.FlushAck.{Writing, writing}
+use Rattle.input.specs.Datagram.{ReadOut}
 use Rattle.output.specs.Memory.{Out, FlushOut}
 use Rattle.kcp_send.specs.Send.{SendOut, sendOf}
 use Rattle.kcp_input.specs.Input.{inputOf}
@@ -67,13 +68,14 @@ withFlushed m x = record { memory = record { block = x .block; rcv = m .rcv; ack
 -- ---- the calls
 
 -- the recording has no skipped push: their number stands for the sum
+abbrev pub byInput : Memory → ReadOut → Played
+byInput m o = record {
+  memory = record { block = o .block; rcv = o .rcv; acks = o .acks; waiting = m .waiting; snd = listsOf (o .snd) };
+  answer = ofBytes (o .answer) (o .skipped);
+}
+
 unfoldable pub inputStep : Memory → List ℕ → Played
-inputStep m s =
-    let o = inputOf (m .block) (m .rcv) (m .acks) (m .waiting) (m .snd) s in
-    record {
-      memory = record { block = o .block; rcv = o .rcv; acks = o .acks; waiting = m .waiting; snd = listsOf (o .snd) };
-      answer = ofBytes (o .answer) (o .skipped);
-    }
+inputStep m s = byInput m (inputOf (m .block) (m .rcv) (m .acks) (m .waiting) (m .snd) s)
 
 abbrev pub bySend : SendOut → Sent
 bySend o = record { block = o .block; answer = ofBytes (o .answer) 0; snd = listsOf (o .store) }

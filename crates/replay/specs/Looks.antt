@@ -48,7 +48,7 @@ startsAt k rcv snd =
     (withReceiver k (record { «rcv_nxt» = rcv; «rcv_wnd» = k .receiver .«rcv_wnd»; largest = k .receiver .largest; ring = k .receiver .ring }))
     (record { «snd_una» = snd; «snd_nxt» = snd; ring = k .sender .ring; xmit = k .sender .xmit; dead = k .sender .dead })
 
-abbrev pub freshOf : Row → Lent → Constructed
+unfoldable pub freshOf : Row → Lent → Constructed
 freshOf r l = madeOf (lentSizes l) (pick (eqb (r .b) 0) (freshPlain (r .a)) (freshStream (r .a)))
 
 unfoldable pub started : Row → Kcp → Constructed → Made

@@ -8,7 +8,7 @@ ghost use Rattle.kcp_receive.specs.Calls.{peeksizeOf, recvOf, setWndsizeOf};
 ghost use Rattle.kcp_flush.specs.Calls.{checkOf};
 ghost use Rattle.replay.specs.Sums.{sumOf, zeros, bit, low32};
 ghost use Rattle.replay.specs.Answers.{told, unknown, ofLength, ofWait, ofPut};
-ghost use Rattle.replay.specs.Looks.{made, bySet, byRecv, startsAt, freshOf, started, setBy, settingOf, gotten, putIn, helped, unlentOf, recvStep, receiveOf, lookOf};
+ghost use Rattle.replay.specs.Looks.{made, bySet, byRecv, flag, startsAt, freshOf, started, setBy, settingOf, gotten, putIn, helped, unlentOf, recvStep, receiveOf, lookOf};
 use crate::answers::Answer;
 use crate::answers::of_answer;
 use crate::answers::of_length;
@@ -210,6 +210,13 @@ fn signed(x: u32) -> i32
     }
 }
 
+// A flag is any number but 0.
+fn flag(x: u32) -> bool
+    ensures { λ r. ⌜ r ≡ flag x ⌝ }
+{
+    x != 0
+}
+
 // The setters that answer nothing.
 fn set_by(block: Kcp, row: Row) -> Kcp
     ensures { λ r. ⌜ r ≡ setBy row block ⌝ }
@@ -217,7 +224,7 @@ fn set_by(block: Kcp, row: Row) -> Kcp
     let code = row.code;
     match code {
         12 => block.set_interval(row.a),
-        13 => block.set_nodelay(row.a != 0, signed(row.b), signed(row.c), row.d != 0),
+        13 => block.set_nodelay(flag(row.a), signed(row.b), signed(row.c), flag(row.d)),
         14 => block.set_rx_minrto(row.a),
         15 => block.set_fast_resend(row.a),
         16 => block.set_maximum_resend_times(row.a),

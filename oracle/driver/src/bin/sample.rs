@@ -16,10 +16,11 @@
 //!
 //! A sum is that of number * (index + 1), modulo 2^32.
 //!
-//!      0 a block made anew: conv, stream, the numbers that receiving and sending start from
-//!      1 input: the datagram is the bytes      2 recv: the buffer's length         3 peeksize       4 move_buf
-//!      5 send: len, byte; the byte at index i is (byte + 7 i) mod 256
-//!      6 flush_ack       7 flush       8 update: current       9 check: current
+//!      0 input: the datagram is the bytes
+//!      1 send: len, byte; the byte at index i is (byte + 7 i) mod 256
+//!      2 flush_ack       3 flush       4 update: current; from here on no call changes the memory that a host lends
+//!      5 a block made anew: conv, stream, the numbers that receiving and sending start from
+//!      6 recv: the buffer's length       7 peeksize       8 move_buf       9 check: current
 //!     10 set_wndsize: snd, rcv     11 set_mtu     12 set_interval     13 set_nodelay: nodelay, interval, resend, nc
 //!     14 set_rx_minrto     15 set_fast_resend     16 set_maximum_resend_times     17 input_conv     18 set_conv
 //!     19 every getter, and the sum of what they answer: conv, waiting_conv, mtu, mss, snd_wnd, rcv_wnd, rmt_wnd, wait_snd, header_len,
@@ -130,15 +131,15 @@ fn gotten(judge: &mut Judge) -> Vec<u32> {
 /// The code and the arguments; none where the recording has no such call.
 fn words(call: &Call) -> Option<[u32; 5]> {
     Some(match call {
-        Call::Start { conv, stream, rcv, snd, .. } => [0, *conv, *stream as u32, *rcv, *snd],
-        Call::Input(_) => [1, 0, 0, 0, 0],
-        Call::Recv(n) if *n <= BUFFER => [2, *n as u32, 0, 0, 0],
-        Call::Peeksize => [3, 0, 0, 0, 0],
-        Call::MoveBuf => [4, 0, 0, 0, 0],
-        Call::Send(fill) if fill.len <= MESSAGE => [5, fill.len as u32, fill.seed as u32, 0, 0],
-        Call::FlushAck => [6, 0, 0, 0, 0],
-        Call::Flush => [7, 0, 0, 0, 0],
-        Call::Update(current) => [8, *current, 0, 0, 0],
+        Call::Start { conv, stream, rcv, snd, .. } => [5, *conv, *stream as u32, *rcv, *snd],
+        Call::Input(_) => [0; 5],
+        Call::Recv(n) if *n <= BUFFER => [6, *n as u32, 0, 0, 0],
+        Call::Peeksize => [7, 0, 0, 0, 0],
+        Call::MoveBuf => [8, 0, 0, 0, 0],
+        Call::Send(fill) if fill.len <= MESSAGE => [1, fill.len as u32, fill.seed as u32, 0, 0],
+        Call::FlushAck => [2, 0, 0, 0, 0],
+        Call::Flush => [3, 0, 0, 0, 0],
+        Call::Update(current) => [4, *current, 0, 0, 0],
         Call::Check(current) => [9, *current, 0, 0, 0],
         Call::SetWndsize(snd, rcv) => [10, *snd as u32, *rcv as u32, 0, 0],
         Call::SetMtu(mtu) => [11, *mtu as u32, 0, 0, 0],

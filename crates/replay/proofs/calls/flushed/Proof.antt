@@ -1,50 +1,38 @@
+-- `replay::calls::flushed` meets its contract. Either by its code. Assumes nothing.
+use Rattle.replay.proofs.Making.{flushes, updates}
 use borrow.Author.Needs.{needs}
 use Rattle.replay.proofs.calls.flushed.Statement.{statement}
 use Rattle.replay.proofs.calls.flushed.Tie as tie
-use Rattle.replay.proofs.calls.flushed.Reads as reads
-use Rattle.replay.proofs.calls.flushed.Lts as lts
-use Rattle.kcp_flush.proofs.flush.Reads as flush-reads
-use Rattle.kcp_flush.proofs.update.Reads as update-reads
 
--- src/calls.rt:163:9
 flush-requires : tie.Need-flush-requires
 flush-requires c κs = search needs
 
--- src/calls.rt:163:9
 same-length : tie.Need-same-length
 same-length c = search needs
 
--- src/calls.rt:163:9
 same-length-2 : tie.Need-same-length-2
 same-length-2 c = search needs
 
--- src/calls.rt:163:9
 same-length-3 : tie.Need-same-length-3
 same-length-3 c = search needs
 
--- src/calls.rt:163:9
 returns : tie.Need-returns
-returns c = ?
+returns c = flushes _ _ _ _ _ (c .before .before .before .before .before .before .flush .ensures .is) (c .before .before .before .before .before .before .before .before .before .before .if1 .taken)
 
--- src/calls.rt:173:5
 update-requires : tie.Need-update-requires
 update-requires c κs = search needs
 
--- src/calls.rt:147:1
 same-length-4 : tie.Need-same-length-4
 same-length-4 c = search needs
 
--- src/calls.rt:147:1
 same-length-5 : tie.Need-same-length-5
 same-length-5 c = search needs
 
--- src/calls.rt:147:1
 same-length-6 : tie.Need-same-length-6
 same-length-6 c = search needs
 
--- src/calls.rt:147:1
 returns-2 : tie.Need-returns-2
-returns-2 c = ?
+returns-2 c = updates _ _ _ _ _ (c .before .before .before .before .before .before .update .ensures .is) (c .before .before .before .before .before .before .before .before .before .before .if1 .left)
 
 pub flushed-spec : {M : Type 1} → statement M
 flushed-spec =

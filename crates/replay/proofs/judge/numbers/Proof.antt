@@ -1,4 +1,5 @@
 -- `replay::judge::numbers` meets its contract. What the calls ensure. Assumes nothing.
+use Rattle.replay.proofs.Judging.{numbers-are}
 use mathlib.Core.Path.{refl}
 use Rattle.replay.specs.Judge.{numbersOf}
 use borrow.Author.Needs.{needs}
@@ -45,8 +46,7 @@ bit-requires-6 : tie.Need-bit-requires-6
 bit-requires-6 c κs = search needs
 
 returns : tie.Need-returns
-unfolding numbersOf
-returns c = (rw (c .bit6 .ensures, c .before .bit5 .ensures, c .before .before .bit4 .ensures, c .before .before .before .high-of .ensures, c .before .before .before .before .low-of .ensures, c .before .before .before .before .before .bit3 .ensures, c .before .before .before .before .before .before .bit2 .ensures, c .before .before .before .before .before .before .before .wide165 .ensures, c .before .before .before .before .before .before .before .before .wide164 .ensures, c .before .before .before .before .before .before .before .before .before .wide163 .ensures, c .before .before .before .before .before .before .before .before .before .before .wide162 .ensures, c .before .before .before .before .before .before .before .before .before .before .before .wide16 .ensures, c .before .before .before .before .before .before .before .before .before .before .before .before .bit .ensures), refl)
+returns c = (numbers-are _ _ (c .before .before .before .before .before .before .before .before .before .before .before .before .bit .ensures) (c .before .before .before .before .before .before .before .before .before .before .before .wide16 .ensures) (c .before .before .before .before .before .before .before .before .before .before .wide162 .ensures) (c .before .before .before .before .before .before .before .before .before .wide163 .ensures) (c .before .before .before .before .before .before .before .before .wide164 .ensures) (c .before .before .before .before .before .before .before .wide165 .ensures) (c .before .before .before .before .before .before .bit2 .ensures) (c .before .before .before .before .before .bit3 .ensures) (c .before .before .before .before .low-of .ensures) (c .before .before .before .high-of .ensures) (c .before .before .bit4 .ensures) (c .before .bit5 .ensures) (c .bit6 .ensures), refl)
 
 pub numbers-spec : {M : Type 1} → statement M
 numbers-spec =

@@ -1,105 +1,94 @@
+-- `replay::judge::run` meets its contract. The loop's invariant: the tally of the whole is that from here, and no lent memory changes its length. Assumes nothing.
+use Prim.Native.Nat.{_-_}
+use native.Mathlib.Omega.{arith}
+use mathlib.Core.Path.{_≡_, refl, ap, _∙_}
+use Rattle.replay.specs.declared.rows.Row.{Row}
+use lib.ListN.{length}
+use Rattle.replay.specs.Calls.{memoryOf}
+use Rattle.replay.proofs.Judging.{Here, here-first, ends, goes}
+use borrow.Author.Needs.{needs}
 use Rattle.replay.proofs.judge.run.Statement.{statement}
 use Rattle.replay.proofs.judge.run.Tie as tie
-use Rattle.replay.proofs.judge.run.Reads as reads
-use Rattle.replay.proofs.judge.run.Lts as lts
-use Rattle.replay.proofs.calls.make.Reads as make-reads
-use Rattle.replay.proofs.judge.Tally.with.Reads as with-reads
-use Rattle.replay.proofs.judge.agrees.Reads as agrees-reads
-use Rattle.replay.proofs.rows.row_at.Reads as row-at-reads
-use Rattle.replay.proofs.rows.whole.Reads as whole-reads
-use Rattle.replay.proofs.rows.wide.Reads as wide-reads
 
 abbrev Inv-loop : tie.InvT-loop
-Inv-loop recording rcv-records₀ rcv-room₀ snd-records₀ snd-room₀ acks₀ waiting₀ block₀ tally₀ at₀ rcv-records rcv-room snd-records snd-room acks waiting block tally at =
-    ?
+Inv-loop recording rcv-records₀ rcv-room₀ snd-records₀ snd-room₀ acks₀ waiting₀ block₀ tally₀ at₀ rcv-records rcv-room snd-records snd-room acks waiting block tally at = 
+    Here recording (memoryOf block₀ rcv-records₀ rcv-room₀ snd-records₀ snd-room₀ acks₀ waiting₀) at (memoryOf block rcv-records rcv-room snd-records snd-room acks waiting) tally
+    × (length rcv-records ≡ length rcv-records₀)
+    × (length rcv-room ≡ length rcv-room₀)
+    × (length snd-records ≡ length snd-records₀)
+    × (length snd-room ≡ length snd-room₀)
+    × (length acks ≡ length acks₀)
+    × (length waiting ≡ length waiting₀)
 
 abbrev μ-loop : tie.MeasureT-loop
-μ-loop recording rcv-records₀ rcv-room₀ snd-records₀ snd-room₀ acks₀ waiting₀ block₀ tally₀ at₀ rcv-records rcv-room snd-records snd-room acks waiting block tally at =
-    ?
+μ-loop recording rcv-records₀ rcv-room₀ snd-records₀ snd-room₀ acks₀ waiting₀ block₀ tally₀ at₀ rcv-records rcv-room snd-records snd-room acks waiting block tally at = length recording - at
 
--- src/judge.rt:207:5
 loop-holds : tie.Need-loop-holds Inv-loop μ-loop
-loop-holds c = ?
+loop-holds c = (here-first _ _, refl, refl, refl, refl, refl, refl)
 
--- src/judge.rt:207:11
 whole-requires : tie.Need-whole-requires Inv-loop μ-loop
-whole-requires c κs = ?
+whole-requires c κs = c .loop .inv .0 .within
 
--- src/judge.rt:208:13
 row-at-requires : tie.Need-row-at-requires Inv-loop μ-loop
-row-at-requires c κs = ?
+row-at-requires c κs = c .before .whole .ensures .1 (c .if1 .taken) .numbers
 
--- src/judge.rt:209:20
 add-from : tie.Need-add-from Inv-loop μ-loop
-add-from c = ?
+add-from c = let w = c .before .before .whole .ensures .1 (c .before .if1 .taken) in let n = w .numbers in let b = w .bytes in omega arith
 
--- src/judge.rt:210:25
 wide-requires : tie.Need-wide-requires Inv-loop μ-loop
-wide-requires c κs = ?
+wide-requires c κs = search needs
 
--- src/judge.rt:210:18
 add-to : tie.Need-add-to Inv-loop μ-loop
-add-to c = ?
+add-to c = let w = c .before .before .before .whole .ensures .1 (c .before .before .if1 .taken) in let n = w .numbers in let b = w .bytes in omega (arith, ap (λ (r : Row). r .bytes) (c .before .row-at .ensures), c .wide .ensures .0)
 
--- src/judge.rt:214:13
 sub-make : tie.Need-sub-make Inv-loop μ-loop
-sub-make c = ?
+sub-make c = let w = c .before .before .before .whole .ensures .1 (c .before .before .if1 .taken) in let n = w .numbers in let b = w .bytes in omega arith
 
--- src/judge.rt:214:13
 part-make-start : tie.Need-part-make-start Inv-loop μ-loop
-part-make-start c = ?
+part-make-start c = let w = c .before .before .before .whole .ensures .1 (c .before .before .if1 .taken) in let n = w .numbers in let b = w .bytes in omega arith
 
--- src/judge.rt:214:13
 part-make-end : tie.Need-part-make-end Inv-loop μ-loop
-part-make-end c = ?
+part-make-end c = let w = c .before .before .before .whole .ensures .1 (c .before .before .if1 .taken) in let n = w .numbers in let b = w .bytes in omega (arith, ap (λ (r : Row). r .bytes) (c .before .row-at .ensures), c .wide .ensures .0)
 
--- src/judge.rt:211:13
 make-requires : tie.Need-make-requires Inv-loop μ-loop
-make-requires c κs = ?
+make-requires c κs = search needs
 
--- src/judge.rt:223:28
 agrees-requires : tie.Need-agrees-requires Inv-loop μ-loop
-agrees-requires c κs = ?
+agrees-requires c κs = search needs
 
--- src/judge.rt:223:9
 with-requires : tie.Need-with-requires Inv-loop μ-loop
-with-requires c κs = ?
+with-requires c κs = let h = c .before .before .before .before .before .before .before .before .before .before .before .before .before .before .before .before .before .before .before .before .before .before .before .before .before .before .before .before .loop .inv .0 in let f = h .few in let z = add-from (c .before .before .before .before .before .before .before .before .before .before .before .before .before .before .before .before .before .before .before .before .before .before .before .before .before) in (omega arith, h .fewer)
 
--- src/judge.rt:207:5
 loop-less : tie.Need-loop-less Inv-loop μ-loop
-loop-less c = ?
+loop-less c = let w = c .before .before .before .before .before .before .before .before .before .before .before .before .before .before .before .before .before .before .before .before .before .before .before .before .before .before .before .before .whole .ensures .1 (c .before .before .before .before .before .before .before .before .before .before .before .before .before .before .before .before .before .before .before .before .before .before .before .before .before .before .before .if1 .taken) in let n = w .numbers in let b = w .bytes in omega arith
 
--- src/judge.rt:207:5
 loop-again : tie.Need-loop-again Inv-loop μ-loop
-loop-again c = ?
+loop-again c = 
+    let l = c .before .before .before .before .before .before .before .before .before .before .before .before .before .before .before .before .before .before .before .before .before .before .before .before .before .before .before .before .before .loop .inv in (
+      goes _ (l .0) (c .before .before .before .before .before .before .before .before .before .before .before .before .before .before .before .before .before .before .before .before .before .before .before .before .before .before .before .before .whole .ensures .0) (c .before .before .before .before .before .before .before .before .before .before .before .before .before .before .before .before .before .before .before .before .before .before .before .before .before .before .before .if1 .taken) (c .before .before .before .before .before .before .before .before .before .before .before .before .before .before .before .before .before .before .before .before .before .before .before .before .before .before .before .before .whole .ensures .1 (c .before .before .before .before .before .before .before .before .before .before .before .before .before .before .before .before .before .before .before .before .before .before .before .before .before .before .before .if1 .taken)) (c .before .before .before .before .before .before .before .before .before .before .before .before .before .before .before .before .before .before .before .before .before .before .before .before .before .before .row-at .ensures) (c .before .before .before .before .before .before .before .before .before .before .before .before .before .before .before .before .before .before .before .before .before .before .before .before .before .wide .ensures .0) (c .before .before .before .before .before .before .before .before .before .before .before .before .before .before .before .before .before .make .ensures) (c .before .agrees .ensures) (c .with .ensures),
+      c .before .before .before .before .before .before .before .before .before .before .before .before .before .before .before .before .rcv-records .given ∙ l .1, c .before .before .before .before .before .before .before .before .before .before .before .before .before .before .rcv-room .given ∙ l .2, c .before .before .before .before .before .before .before .before .before .before .before .before .snd-records .given ∙ l .3, c .before .before .before .before .before .before .before .before .before .before .snd-room .given ∙ l .4, c .before .before .before .before .before .before .before .before .acks .given ∙ l .5, c .before .before .before .before .before .before .waiting .given ∙ l .6,
+    )
 
--- src/judge.rt:188:1
 same-length : tie.Need-same-length Inv-loop μ-loop
-same-length c = ?
+same-length c = c .before .before .loop .inv .1
 
--- src/judge.rt:188:1
 same-length-2 : tie.Need-same-length-2 Inv-loop μ-loop
-same-length-2 c = ?
+same-length-2 c = c .before .before .loop .inv .2
 
--- src/judge.rt:188:1
 same-length-3 : tie.Need-same-length-3 Inv-loop μ-loop
-same-length-3 c = ?
+same-length-3 c = c .before .before .loop .inv .3
 
--- src/judge.rt:188:1
 same-length-4 : tie.Need-same-length-4 Inv-loop μ-loop
-same-length-4 c = ?
+same-length-4 c = c .before .before .loop .inv .4
 
--- src/judge.rt:188:1
 same-length-5 : tie.Need-same-length-5 Inv-loop μ-loop
-same-length-5 c = ?
+same-length-5 c = c .before .before .loop .inv .5
 
--- src/judge.rt:188:1
 same-length-6 : tie.Need-same-length-6 Inv-loop μ-loop
-same-length-6 c = ?
+same-length-6 c = c .before .before .loop .inv .6
 
--- src/judge.rt:188:1
 returns : tie.Need-returns Inv-loop μ-loop
-returns c = ?
+returns c = ends _ (c .before .before .loop .inv .0) (c .before .whole .ensures .0) (c .if1 .left)
 
 pub run-spec : {M : Type 1} → statement M
 run-spec =

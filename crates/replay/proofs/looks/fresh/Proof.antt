@@ -1,4 +1,5 @@
 -- `replay::looks::fresh` meets its contract. Plain or stream, by the test. Assumes nothing.
+use Rattle.replay.proofs.Looking.{fresh-plain, fresh-stream}
 use mathlib.Core.Path.{sym, ap, _∙_}
 use Rattle.replay.proofs.Branches.{is, other, under, over}
 use Rattle.block.specs.declared.Kcp.{Kcp}
@@ -11,13 +12,13 @@ new-requires : tie.Need-new-requires
 new-requires c κs = search needs
 
 returns : tie.Need-returns
-returns c = c .new .ensures .answer ∙ ap (λ (k : Kcp). madeOf (lentSizes _) k) (sym (is _ _ (c .before .if1 .taken)))
+returns c = fresh-plain _ _ (c .new .ensures .answer) (c .before .if1 .taken)
 
 new-stream-requires : tie.Need-new-stream-requires
 new-stream-requires c κs = search needs
 
 returns-2 : tie.Need-returns-2
-returns-2 c = c .new-stream .ensures .answer ∙ ap (λ (k : Kcp). madeOf (lentSizes _) k) (sym (other _ _ (c .before .if1 .left)))
+returns-2 c = fresh-stream _ _ (c .new-stream .ensures .answer) (c .before .if1 .left)
 
 pub fresh-spec : {M : Type 1} → statement M
 fresh-spec = tie.close (tie.spec new-requires returns new-stream-requires returns-2)

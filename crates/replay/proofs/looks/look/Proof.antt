@@ -1,58 +1,41 @@
+-- `replay::looks::look` meets its contract. Each call by its code. Assumes nothing.
+use Rattle.replay.proofs.Looking.{look-start, look-receive, look-check, look-windows, look-unlent}
 use borrow.Author.Needs.{needs}
 use Rattle.replay.proofs.looks.look.Statement.{statement}
 use Rattle.replay.proofs.looks.look.Tie as tie
-use Rattle.replay.proofs.looks.look.Reads as reads
-use Rattle.replay.proofs.looks.look.Lts as lts
-use Rattle.replay.proofs.looks.check_step.Reads as check-step-reads
-use Rattle.replay.proofs.looks.fresh.Reads as fresh-reads
-use Rattle.replay.proofs.looks.receive_step.Reads as receive-step-reads
-use Rattle.replay.proofs.looks.started.Reads as started-reads
-use Rattle.replay.proofs.looks.unlent.Reads as unlent-reads
-use Rattle.replay.proofs.looks.windows_step.Reads as windows-step-reads
 
--- src/looks.rt:347:13
 fresh-requires : tie.Need-fresh-requires
 fresh-requires c κs = search needs
 
--- src/looks.rt:345:9
 started-requires : tie.Need-started-requires
 started-requires c κs = search needs
 
--- src/looks.rt:345:9
 returns : tie.Need-returns
-returns c = ?
+returns c = look-start _ _ _ _ (c .before .fresh .ensures) (c .started .ensures) (c .before .before .if1 .taken)
 
--- src/looks.rt:360:9
 receive-step-requires : tie.Need-receive-step-requires
 receive-step-requires c κs = search needs
 
--- src/looks.rt:360:9
 returns-2 : tie.Need-returns-2
-returns-2 c = ?
+returns-2 c = look-receive _ _ _ _ (c .before .before .before .if1 .left) (c .receive-step .ensures) (c .before .if2 .taken)
 
--- src/looks.rt:363:9
 check-step-requires : tie.Need-check-step-requires
 check-step-requires c κs = search needs
 
--- src/looks.rt:363:9
 returns-3 : tie.Need-returns-3
-returns-3 c = ?
+returns-3 c = look-check _ _ _ _ (c .before .before .before .before .before .if1 .left) (c .before .before .before .if2 .left) (c .check-step .ensures) (c .before .if3 .taken)
 
--- src/looks.rt:366:9
 windows-step-requires : tie.Need-windows-step-requires
 windows-step-requires c κs = search needs
 
--- src/looks.rt:366:9
 returns-4 : tie.Need-returns-4
-returns-4 c = ?
+returns-4 c = look-windows _ _ _ _ (c .before .before .before .before .before .before .before .if1 .left) (c .before .before .before .before .before .if2 .left) (c .windows-step .ensures) (c .before .before .before .if3 .left) (c .before .if4 .taken)
 
--- src/looks.rt:368:5
 unlent-requires : tie.Need-unlent-requires
 unlent-requires c κs = search needs
 
--- src/looks.rt:331:1
 returns-5 : tie.Need-returns-5
-returns-5 c = ?
+returns-5 c = look-unlent _ _ _ _ (c .before .before .before .before .before .before .before .if1 .left) (c .before .before .before .before .before .if2 .left) (c .unlent .ensures) (c .before .before .before .if3 .left) (c .before .if4 .left)
 
 pub look-spec : {M : Type 1} → statement M
 look-spec =

@@ -1,34 +1,29 @@
+-- `replay::looks::put` meets its contract. Either side of the test; the part that is lent is as long as the bytes. Assumes nothing.
+use mathlib.Core.Path.{sym}
+use native.Mathlib.Omega.{arith}
+use lib.Seq.{length-take-le}
+use Rattle.replay.proofs.Looking.{put-long, put-fits}
 use borrow.Author.Needs.{needs}
 use Rattle.replay.proofs.looks.put.Statement.{statement}
 use Rattle.replay.proofs.looks.put.Tie as tie
-use Rattle.replay.proofs.looks.put.Reads as reads
-use Rattle.replay.proofs.looks.put.Lts as lts
-use Rattle.replay.proofs.answers.unknown.Reads as unknown-reads
-use Rattle.replay.proofs.looks.put_in.Reads as put-in-reads
 
--- src/looks.rt:295:9
 unknown-requires : tie.Need-unknown-requires
 unknown-requires c κs = search needs
 
--- src/looks.rt:295:9
 returns : tie.Need-returns
-returns c = ?
+returns c = put-long _ _ (c .unknown .ensures) (c .before .if1 .taken)
 
--- src/looks.rt:298:12
 array-borrow-prefix-buf : tie.Need-array-borrow-prefix-buf
 array-borrow-prefix-buf c = search needs
 
--- src/looks.rt:298:12
 slice-aggregate-put-in : tie.Need-slice-aggregate-put-in
-slice-aggregate-put-in c = ?
+slice-aggregate-put-in c = sym (length-take-le _ _ (omega arith))
 
--- src/looks.rt:298:5
 put-in-requires : tie.Need-put-in-requires
-put-in-requires c κs = ?
+put-in-requires c κs = length-take-le _ _ (omega arith)
 
--- src/looks.rt:291:1
 returns-2 : tie.Need-returns-2
-returns-2 c = ?
+returns-2 c = put-fits _ _ (c .before .put-in .ensures) (c .before .before .before .if1 .left)
 
 pub put-spec : {M : Type 1} → statement M
 put-spec =

@@ -1,45 +1,32 @@
+-- `replay::looks::receive_step` meets its contract. Each call by its code. Assumes nothing.
+use Rattle.replay.proofs.Looking.{receives, peeks, moves}
 use borrow.Author.Needs.{needs}
 use Rattle.replay.proofs.looks.receive_step.Statement.{statement}
 use Rattle.replay.proofs.looks.receive_step.Tie as tie
-use Rattle.replay.proofs.looks.receive_step.Reads as reads
-use Rattle.replay.proofs.looks.receive_step.Lts as lts
-use Rattle.kcp_receive.proofs.move_buf.Reads as move-buf-reads
-use Rattle.replay.proofs.looks.by_set.Reads as by-set-reads
-use Rattle.replay.proofs.looks.peeksize_step.Reads as peeksize-step-reads
-use Rattle.replay.proofs.looks.recv_step.Reads as recv-step-reads
-use Rattle.replay.proofs.rows.wide.Reads as wide-reads
 
--- src/looks.rt:173:33
 wide-requires : tie.Need-wide-requires
 wide-requires c κs = search needs
 
--- src/looks.rt:173:9
 recv-step-requires : tie.Need-recv-step-requires
 recv-step-requires c κs = search needs
 
--- src/looks.rt:173:9
 returns : tie.Need-returns
-returns c = ?
+returns c = receives _ _ _ (c .before .wide .ensures .0) (c .recv-step .ensures) (c .before .before .if1 .taken)
 
--- src/looks.rt:176:9
 peeksize-step-requires : tie.Need-peeksize-step-requires
 peeksize-step-requires c κs = search needs
 
--- src/looks.rt:176:9
 returns-2 : tie.Need-returns-2
-returns-2 c = ?
+returns-2 c = peeks _ _ _ (c .peeksize-step .ensures) (c .before .before .before .if1 .left) (c .before .if2 .taken)
 
--- src/looks.rt:178:12
 move-buf-requires : tie.Need-move-buf-requires
 move-buf-requires c κs = search needs
 
--- src/looks.rt:178:5
 by-set-requires : tie.Need-by-set-requires
 by-set-requires c κs = search needs
 
--- src/looks.rt:169:1
 returns-3 : tie.Need-returns-3
-returns-3 c = ?
+returns-3 c = moves _ _ _ (c .before .move-buf .ensures .is) (c .by-set .ensures) (c .before .before .before .before .if1 .left) (c .before .before .if2 .left)
 
 pub receive-step-spec : {M : Type 1} → statement M
 receive-step-spec =

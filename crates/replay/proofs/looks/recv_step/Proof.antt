@@ -1,39 +1,32 @@
+-- `replay::looks::recv_step` meets its contract. Either side of the test; the part that is lent is as long as the step says. Assumes nothing.
+use mathlib.Core.Path.{sym}
+use native.Mathlib.Omega.{arith}
+use lib.Seq.{length-take-le}
+use Rattle.replay.proofs.Looking.{recv-long, recv-fits}
 use borrow.Author.Needs.{needs}
 use Rattle.replay.proofs.looks.recv_step.Statement.{statement}
 use Rattle.replay.proofs.looks.recv_step.Tie as tie
-use Rattle.replay.proofs.looks.recv_step.Reads as reads
-use Rattle.replay.proofs.looks.recv_step.Lts as lts
-use Rattle.replay.proofs.looks.recv_in.Reads as recv-in-reads
-use Rattle.replay.proofs.looks.unplayed.Reads as unplayed-reads
-use Rattle.replay.proofs.looks.zeros_8192.Reads as zeros-8192-reads
 
--- src/looks.rt:153:9
 unplayed-requires : tie.Need-unplayed-requires
 unplayed-requires c κs = search needs
 
--- src/looks.rt:153:9
 returns : tie.Need-returns
-returns c = ?
+returns c = recv-long _ _ _ (c .unplayed .ensures) (c .before .if1 .taken)
 
--- src/looks.rt:155:19
 zeros-8192-requires : tie.Need-zeros-8192-requires
 zeros-8192-requires c κs = search needs
 
--- src/looks.rt:156:35
 array-borrow-prefix-buf : tie.Need-array-borrow-prefix-buf
 array-borrow-prefix-buf c = search needs
 
--- src/looks.rt:156:35
 slice-aggregate-recv-in : tie.Need-slice-aggregate-recv-in
-slice-aggregate-recv-in c = ?
+slice-aggregate-recv-in c = sym (length-take-le _ _ (omega arith))
 
--- src/looks.rt:156:5
 recv-in-requires : tie.Need-recv-in-requires
 recv-in-requires c κs = search needs
 
--- src/looks.rt:149:1
 returns-2 : tie.Need-returns-2
-returns-2 c = ?
+returns-2 c = recv-fits _ _ _ (c .before .before .before .zeros-8192 .ensures .0) (c .before .recv-in .ensures) (c .before .before .before .before .if1 .left)
 
 pub recv-step-spec : {M : Type 1} → statement M
 recv-step-spec =

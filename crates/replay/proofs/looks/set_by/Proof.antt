@@ -1,8 +1,9 @@
 -- `replay::looks::set_by` meets its contract. Each setter by its code. Assumes nothing.
-use mathlib.Core.Path.{sym, ap, _∙_}
-use Rattle.replay.proofs.Branches.{is, other, under, over}
+use mathlib.Core.Path.{sym, _∙_}
 use Rattle.serial.specs.Branch.{pick}
 use Rattle.replay.specs.Looks.{setBy}
+use Rattle.replay.proofs.Branches.{other}
+use Rattle.replay.proofs.Looking.{set-nodelay}
 use borrow.Author.Needs.{needs}
 use Rattle.replay.proofs.looks.set_by.Statement.{statement}
 use Rattle.replay.proofs.looks.set_by.Tie as tie
@@ -10,11 +11,17 @@ use Rattle.replay.proofs.looks.set_by.Tie as tie
 set-interval-requires : tie.Need-set-interval-requires
 set-interval-requires c κs = search needs
 
+flag-requires : tie.Need-flag-requires
+flag-requires c κs = search needs
+
 signed-requires : tie.Need-signed-requires
 signed-requires c κs = search needs
 
 signed-requires-2 : tie.Need-signed-requires-2
 signed-requires-2 c κs = search needs
+
+flag-requires-2 : tie.Need-flag-requires-2
+flag-requires-2 c κs = search needs
 
 set-nodelay-requires : tie.Need-set-nodelay-requires
 set-nodelay-requires c κs = search needs
@@ -39,8 +46,7 @@ unfolding setBy pick
 returns c = rw (c .before .match .keys1) (c .set-interval .ensures)
 
 returns-2 : tie.Need-returns-2
-unfolding setBy pick
-returns-2 c = rw (c .before .before .before .before .before .match .keys2) (c .set-nodelay .ensures ∙ rw (c .before .before .signed2 .ensures, c .before .before .before .signed .ensures))
+returns-2 c = set-nodelay _ _ (c .before .before .before .before .flag .ensures) (c .before .before .before .signed .ensures) (c .before .before .signed2 .ensures) (c .before .flag2 .ensures) (record { sfits = c .before .before .before .signed .ok }) (record { sfits = c .before .before .signed2 .ok }) (c .set-nodelay .ensures) (c .before .before .before .before .before .match .keys2)
 
 returns-3 : tie.Need-returns-3
 unfolding setBy pick
@@ -67,8 +73,10 @@ set-by-spec =
     tie.close
     (tie.spec
     set-interval-requires
+    flag-requires
     signed-requires
     signed-requires-2
+    flag-requires-2
     set-nodelay-requires
     set-rx-minrto-requires
     set-fast-resend-requires

@@ -1,4 +1,5 @@
 -- `replay::looks::setting_step` meets its contract. Either side of the test. Assumes nothing.
+use Rattle.replay.proofs.Looking.{set-mtu, set-any}
 use mathlib.Core.Path.{sym, ap, _∙_}
 use Rattle.replay.proofs.Branches.{is, other, under, over}
 use Rattle.replay.specs.Looks.{settingOf}
@@ -16,8 +17,7 @@ by-set-requires : tie.Need-by-set-requires
 by-set-requires c κs = search needs
 
 returns : tie.Need-returns
-unfolding settingOf
-returns c = c .by-set .ensures ∙ rw (c .before .set-mtu .ensures .is, c .before .before .wide .ensures .0) (sym (is _ _ (c .before .before .before .if1 .taken)))
+returns c = set-mtu _ _ (c .before .before .wide .ensures .0) (c .before .set-mtu .ensures .outcome) (c .by-set .ensures) (c .before .before .before .if1 .taken)
 
 set-by-requires : tie.Need-set-by-requires
 set-by-requires c κs = search needs
@@ -26,8 +26,7 @@ set-to-requires : tie.Need-set-to-requires
 set-to-requires c κs = search needs
 
 returns-2 : tie.Need-returns-2
-unfolding settingOf
-returns-2 c = c .set-to .ensures ∙ rw (c .before .set-by .ensures) (sym (other _ _ (c .before .before .if1 .left)))
+returns-2 c = set-any _ _ (c .before .set-by .ensures) (c .set-to .ensures) (c .before .before .if1 .left)
 
 pub setting-step-spec : {M : Type 1} → statement M
 setting-step-spec =

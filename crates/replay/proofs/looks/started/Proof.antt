@@ -1,4 +1,5 @@
 -- `replay::looks::started` meets its contract. A block, or a refusal. Assumes nothing.
+use mathlib.Core.Path.{_∙_}
 use Rattle.replay.specs.Looks.{started}
 use borrow.Author.Needs.{needs}
 use Rattle.replay.proofs.looks.started.Statement.{statement}

@@ -17,7 +17,7 @@ wide-requires : tie.Need-wide-requires
 wide-requires c κs = search needs
 
 returns-2 : tie.Need-returns-2
-returns-2 c = all-there _ _ (c .before .before .before .pre) (c .before .before .if1 .left) (c .before .row-at .ensures) (c .wide .ensures .0)
+returns-2 c = all-there _ _ (c .before .before .before .before .pre) (c .before .before .if1 .left) (c .before .row-at .ensures) (c .wide .ensures .0)
 
 pub whole-spec : {M : Type 1} → statement M
 whole-spec = tie.close (tie.spec sub-left returns row-at-requires wide-requires returns-2)
