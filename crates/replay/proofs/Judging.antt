@@ -96,6 +96,7 @@ module _ (s : List ℕ) where
       fewer = agreed-more t _ l;
       same = e ∙ turn f h;
     }
+
   -- What the loop asks, each from the facts that it has in hand.
   module _ {first : Memory} {at : ℕ} {m : Memory} {t : Tally} (here : Here first at m t) where
     pub ends : {b : Bool} → b ≡ wholeAt s at → b ≡ false → t ≡ judged s first

@@ -155,20 +155,12 @@ fn flushed(
     lengths: &mut [u16],
 ) -> Out
     ensures { λ r. ⌜ record {
-          out = record { block = r .block; answer = r .answer; datagrams = r .datagrams; written = writing (now (waiting .entry)) (now (out .exit)) (now (lengths .exit)) };
-          store = storeOf 8 (lists (now («snd_records» .exit)) (now («snd_room» .entry)));
-        } ≡ flushedOf row block (lists (now («snd_records» .entry)) (now («snd_room» .entry))) (now (acks .entry)) (writing (now (waiting .entry)) (now (out .entry)) (now (lengths .entry))) ⌝ }
+      out = record { block = r .block; answer = r .answer; datagrams = r .datagrams; written = writing (now (waiting .entry)) (now (out .exit)) (now (lengths .exit)) };
+      store = storeOf 8 (lists (now («snd_records» .exit)) (now («snd_room» .entry)));
+    } ≡ flushedOf row block (lists (now («snd_records» .entry)) (now («snd_room» .entry))) (now (acks .entry)) (writing (now (waiting .entry)) (now (out .entry)) (now (lengths .entry))) ⌝ }
 {
     if row.code == 3 {
-        return kcp_flush::flush(
-            block,
-            snd_records,
-            snd_room,
-            acks,
-            waiting,
-            out,
-            lengths,
-        );
+        return kcp_flush::flush(block, snd_records, snd_room, acks, waiting, out, lengths);
     }
     kcp_flush::update(
         block,

@@ -213,9 +213,13 @@ impl Recording {
     }
 }
 
-/// Records one sequence, as long as it can be replayed and `most` steps are not reached.
+/// Records one sequence, as long as it can be replayed and `most` steps are not reached. It begins with a plain block of conversation 0, which the judge has
+/// before any call: a sequence of header helpers makes none.
 fn record(seed: u64, sequence: u64, most: usize, recording: &mut Recording) {
     let (mut judge, mut now, mut out) = (Judge::default(), State::default(), Outcome::new());
+    let mut fresh = State::default();
+    judge.read_numbers(&mut fresh, Touched::ALL);
+    recording.put([5, 0, 0, 0, 0], &[], [0; 4], &fresh);
     let mut generator = Generator::new(seed, sequence, None, &[]);
     while recording.steps < most {
         let call = match generator.next(&now) {

@@ -14,7 +14,7 @@ fits-requires : tie.Need-fits-requires
 fits-requires c κs = own-receiver _ (c .own-numbers .ensures)
 
 returns : tie.Need-returns
-returns c = 
+returns c =
     let a = c .before .before .before .before .before .args in
     let l = lists (a .records .now) (a .room .now) in
     unfit (a .block) l (fits-tested _ (c .before .before .own-numbers .ensures) l (c .before .fits2 .ensures .0)) (c .if1 .taken)
@@ -29,13 +29,13 @@ cast-tally-3 : tie.Need-cast-tally-3
 cast-tally-3 c = search needs
 
 tally-requires : tie.Need-tally-requires
-tally-requires c κs = 
+tally-requires c κs =
     let good = c .before .before .before .before .before .fits2 .ensures .1 (not-false _ (c .before .before .before .before .if1 .left)) in
     let shaped = good .sound .shaped in
     (shaped .many, (shaped .started, shaped .within))
 
 returns-2 : tie.Need-returns-2
-returns-2 c = 
+returns-2 c =
     let t = c .before .before .before .before .before in
     let a = c .before .before .before .before .before .before .before .before .before .before .args in
     let l = lists (a .records .now) (a .room .now) in

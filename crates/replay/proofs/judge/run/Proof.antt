@@ -11,7 +11,7 @@ use Rattle.replay.proofs.judge.run.Statement.{statement}
 use Rattle.replay.proofs.judge.run.Tie as tie
 
 abbrev Inv-loop : tie.InvT-loop
-Inv-loop recording rcv-records₀ rcv-room₀ snd-records₀ snd-room₀ acks₀ waiting₀ block₀ tally₀ at₀ rcv-records rcv-room snd-records snd-room acks waiting block tally at = 
+Inv-loop recording rcv-records₀ rcv-room₀ snd-records₀ snd-room₀ acks₀ waiting₀ block₀ tally₀ at₀ rcv-records rcv-room snd-records snd-room acks waiting block tally at =
     Here recording (memoryOf block₀ rcv-records₀ rcv-room₀ snd-records₀ snd-room₀ acks₀ waiting₀) at (memoryOf block rcv-records rcv-room snd-records snd-room acks waiting) tally
     × (length rcv-records ≡ length rcv-records₀)
     × (length rcv-room ≡ length rcv-room₀)
@@ -63,10 +63,15 @@ loop-less : tie.Need-loop-less Inv-loop μ-loop
 loop-less c = let w = c .before .before .before .before .before .before .before .before .before .before .before .before .before .before .before .before .before .before .before .before .before .before .before .before .before .before .before .before .whole .ensures .1 (c .before .before .before .before .before .before .before .before .before .before .before .before .before .before .before .before .before .before .before .before .before .before .before .before .before .before .before .if1 .taken) in let n = w .numbers in let b = w .bytes in omega arith
 
 loop-again : tie.Need-loop-again Inv-loop μ-loop
-loop-again c = 
+loop-again c =
     let l = c .before .before .before .before .before .before .before .before .before .before .before .before .before .before .before .before .before .before .before .before .before .before .before .before .before .before .before .before .before .loop .inv in (
       goes _ (l .0) (c .before .before .before .before .before .before .before .before .before .before .before .before .before .before .before .before .before .before .before .before .before .before .before .before .before .before .before .before .whole .ensures .0) (c .before .before .before .before .before .before .before .before .before .before .before .before .before .before .before .before .before .before .before .before .before .before .before .before .before .before .before .if1 .taken) (c .before .before .before .before .before .before .before .before .before .before .before .before .before .before .before .before .before .before .before .before .before .before .before .before .before .before .before .before .whole .ensures .1 (c .before .before .before .before .before .before .before .before .before .before .before .before .before .before .before .before .before .before .before .before .before .before .before .before .before .before .before .if1 .taken)) (c .before .before .before .before .before .before .before .before .before .before .before .before .before .before .before .before .before .before .before .before .before .before .before .before .before .before .row-at .ensures) (c .before .before .before .before .before .before .before .before .before .before .before .before .before .before .before .before .before .before .before .before .before .before .before .before .before .wide .ensures .0) (c .before .before .before .before .before .before .before .before .before .before .before .before .before .before .before .before .before .make .ensures) (c .before .agrees .ensures) (c .with .ensures),
-      c .before .before .before .before .before .before .before .before .before .before .before .before .before .before .before .before .rcv-records .given ∙ l .1, c .before .before .before .before .before .before .before .before .before .before .before .before .before .before .rcv-room .given ∙ l .2, c .before .before .before .before .before .before .before .before .before .before .before .before .snd-records .given ∙ l .3, c .before .before .before .before .before .before .before .before .before .before .snd-room .given ∙ l .4, c .before .before .before .before .before .before .before .before .acks .given ∙ l .5, c .before .before .before .before .before .before .waiting .given ∙ l .6,
+      c .before .before .before .before .before .before .before .before .before .before .before .before .before .before .before .before .rcv-records .given ∙ l .1,
+      c .before .before .before .before .before .before .before .before .before .before .before .before .before .before .rcv-room .given ∙ l .2,
+      c .before .before .before .before .before .before .before .before .before .before .before .before .snd-records .given ∙ l .3,
+      c .before .before .before .before .before .before .before .before .before .before .snd-room .given ∙ l .4,
+      c .before .before .before .before .before .before .before .before .acks .given ∙ l .5,
+      c .before .before .before .before .before .before .waiting .given ∙ l .6,
     )
 
 same-length : tie.Need-same-length Inv-loop μ-loop

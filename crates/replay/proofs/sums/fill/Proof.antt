@@ -12,7 +12,7 @@ use Rattle.replay.proofs.sums.fill.Statement.{statement}
 use Rattle.replay.proofs.sums.fill.Tie as tie
 
 abbrev Inv-loop : tie.InvT-loop
-Inv-loop bytes₀ first byte₀ i₀ bytes byte i = 
+Inv-loop bytes₀ first byte₀ i₀ bytes byte i =
     (i ≤ length bytes₀) × ((length bytes ≡ length bytes₀) × (take i bytes ++ rising byte (length bytes₀ - i) ≡ rising first (length bytes₀)))
 
 abbrev μ-loop : tie.MeasureT-loop
@@ -34,7 +34,7 @@ loop-less : tie.Need-loop-less Inv-loop μ-loop
 loop-less c = search needs
 
 loop-again : tie.Need-loop-again Inv-loop μ-loop
-loop-again c = 
+loop-again c =
     let l = c .before .before .loop in (
       omega arith,
       (simp length-set (l .inv .1 .0), rw (c .wrapping-add-u8 .ensures) (fill-more (l .bytes) (l .byte) (l .i) _ (omega arith) (l .inv .1 .0) ∙ l .inv .1 .1)),
