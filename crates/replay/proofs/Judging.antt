@@ -14,7 +14,9 @@ use Rattle.replay.specs.declared.answers.Answer.{Answer}
 use Rattle.replay.specs.declared.judge.Tally.{Tally}
 use Rattle.replay.specs.Sums.{sumOf, bit, low32}
 use Rattle.replay.specs.Rows.{rowAt, nextAt, handedAt, wholeAt, Whole}
-use Rattle.replay.specs.Calls.{Played, playOf}
+use Rattle.replay.specs.declared.looks.Made.{Made}
+use Rattle.replay.specs.Looks.{made}
+use Rattle.replay.specs.Calls.{Played, memoryOf, playOf}
 use Rattle.replay.specs.Judge.{heldIn, numbersOf, same, agrees, agreed, counted, none, judgedFrom, judged}
 
 -- ---- the numbers
@@ -108,3 +110,8 @@ module _ (s : List ℕ) where
     goes e h w f {n} g i j k =
         let x : at + 44 + n - (at + 44) ≡ n = omega arith in
         rw (k, j, i, x, g, f) (goes-from at m t first (here .fuel) (here .enough) (here .same) (here .few) (here .fewer) (sym e ∙ h) w)
+
+-- the loop's first block is the one that it is handed
+pub from-block : (s rr rm sr sm a w : List ℕ) {k : Kcp} {x : Made} {u : Answer} → x ≡ made k u → {t : Tally}
+    → t ≡ judged s (memoryOf (x .block) rr rm sr sm a w) → t ≡ judged s (memoryOf k rr rm sr sm a w)
+from-block s rr rm sr sm a w e f = f ∙ ap (λ (x : Made). judged s (memoryOf (x .block) rr rm sr sm a w)) e

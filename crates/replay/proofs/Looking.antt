@@ -119,8 +119,8 @@ module _ (r : Row) (s : List ℕ) (k : Kcp) where
 -- ---- the receive memory
 
 pub recv-made : {k : Kcp} {a : Length} {b : List ℕ} {o : RecvOut} → record { block = k; answer = a; buf = b } ≡ o → {n : ℕ} → n ≡ sumOf b
-    → {x : Answer} → x ≡ ofLength a n → made k x ≡ byRecv o
-recv-made {k} {a} {b} f g e = ap (made k) (e ∙ ap (ofLength a) g) ∙ ap byRecv f
+    → {x : Made} → x ≡ made k (ofLength a n) → x ≡ byRecv o
+recv-made {k} {a} f g e = e ∙ ap (λ (n : ℕ). made k (ofLength a n)) g ∙ ap byRecv f
 
 module _ (n : ℕ) (k : Kcp) (l : Lists) {x : Made} where
   pub recv-long : x ≡ made k unknown → 8192 < n → x ≡ recvStep n k l

@@ -28,22 +28,22 @@ use Rattle.replay.proofs.Branches.{is, other, under, over}
 
 pub inputs : (m : Memory) (s : List ℕ) {b : Kcp} {a : Bytes} {n : ℕ} {rcv : Lists} {acks : List ℕ} {l : Lists}
     → record { block = b; answer = a; skipped = n; rcv = rcv; acks = acks; snd = storeOf 8 l } ≡ inputOf (m .block) (m .rcv) (m .acks) (m .waiting) (m .snd) s
-    → {x : Answer} → x ≡ ofBytes a n
-    → record { memory = record { block = b; rcv = rcv; acks = acks; waiting = m .waiting; snd = l }; answer = x } ≡ inputStep m s
+    → {x : Made} → x ≡ made b (ofBytes a n)
+    → record { memory = record { block = x .block; rcv = rcv; acks = acks; waiting = m .waiting; snd = l }; answer = x .answer } ≡ inputStep m s
 unfolding inputStep
-inputs m s {b} {a} {n} {rcv} {acks} {l} e {x} f =
-    ap (λ (q : Lists). record { memory = record { block = b; rcv = rcv; acks = acks; waiting = m .waiting; snd = q }; answer = x }) (sym (lists-back l))
-    ∙ ap (λ (y : Answer). record { memory = byInput m (record { block = b; answer = a; skipped = n; rcv = rcv; acks = acks; snd = storeOf 8 l }) .memory; answer = y }) f
+inputs m s {b} {a} {n} {rcv} {acks} {l} e f =
+    ap (λ (x : Made). record { memory = record { block = x .block; rcv = rcv; acks = acks; waiting = m .waiting; snd = l }; answer = x .answer }) f
+    ∙ ap (λ (q : Lists). record { memory = record { block = b; rcv = rcv; acks = acks; waiting = m .waiting; snd = q }; answer = ofBytes a n }) (sym (lists-back l))
     ∙ ap (byInput m) e
 
 -- ---- send
 
 module _ (k : Kcp) (l : Lists) where
   pub sends-in : (byte n : ℕ) {m : List ℕ} → m ≡ rising byte n → {b : Kcp} {a : Bytes} {q : Lists} → record { block = b; answer = a; store = storeOf 8 q } ≡ sendOf k l m
-      → {x : Answer} → x ≡ ofBytes a 0 → record { block = b; answer = x; snd = q } ≡ bySend (sendOf k l (rising byte n))
-  sends-in byte n f {b} {a} {q} e {x} g =
-      ap (λ (z : Lists). record { block = b; answer = x; snd = z }) (sym (lists-back q))
-      ∙ ap (λ (y : Answer). record { block = b; answer = y; snd = bySend (record { block = b; answer = a; store = storeOf 8 q }) .snd }) g
+      → {x : Made} → x ≡ made b (ofBytes a 0) → record { block = x .block; answer = x .answer; snd = q } ≡ bySend (sendOf k l (rising byte n))
+  sends-in byte n f {b} {a} {q} e g =
+      ap (λ (x : Made). record { block = x .block; answer = x .answer; snd = q }) g
+      ∙ ap (λ (z : Lists). record { block = b; answer = ofBytes a 0; snd = z }) (sym (lists-back q))
       ∙ ap bySend (e ∙ ap (sendOf k l) f)
 
   pub send-long : (r : Row) {x : Made} → x ≡ made k unknown → {n : ℕ} → n ≡ r .a → 4096 < n → record { block = x .block; answer = x .answer; snd = l } ≡ sendStep r k l

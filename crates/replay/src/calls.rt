@@ -7,7 +7,7 @@ ghost use Rattle.snd_ring.specs.Store.{storeOf};
 ghost use Rattle.packing.specs.FlushAck.{writing};
 ghost use Rattle.kcp_send.specs.Send.{sendOf};
 ghost use Rattle.replay.specs.Sums.{rising, zeros};
-ghost use Rattle.replay.specs.Answers.{ofOut};
+ghost use Rattle.replay.specs.Answers.{ofBytes, ofOut};
 ghost use Rattle.replay.specs.Looks.{made};
 ghost use Rattle.replay.specs.Calls.{memoryOf, inputStep, bySend, sendStep, flushAckStep, flushedOf, flushStep, playOf};
 use crate::answers::of_bytes;
@@ -21,10 +21,46 @@ use crate::sums::fill;
 use crate::sums::sum_of_bytes;
 use crate::sums::sum_of_lengths;
 use block::Kcp;
+use input::Outcome;
+use kcp_send::Sent;
 use output::Out;
 
 // The longest message.
 const MESSAGE: usize = 4096;
+
+// What a call left, with its answer as the numbers of a step; that of input goes with the skipped pushes.
+fn by_input(out: Outcome) -> Made
+    ensures { λ r. ⌜ r ≡ made (out .block) (ofBytes (out .answer) (out .skipped)) ⌝ }
+{
+    let block = out.block;
+    let answer = out.answer;
+    Made {
+        block: block,
+        answer: of_bytes(answer, out.skipped),
+    }
+}
+
+fn by_send(out: Sent) -> Made
+    ensures { λ r. ⌜ r ≡ made (out .block) (ofBytes (out .answer) 0) ⌝ }
+{
+    let block = out.block;
+    let answer = out.answer;
+    Made {
+        block: block,
+        answer: of_bytes(answer, 0),
+    }
+}
+
+fn by_out(out: Out, lengths: u32, sum: u32) -> Made
+    ensures { λ r. ⌜ r ≡ made (out .block) (ofOut (out .answer) (out .datagrams) lengths sum) ⌝ }
+{
+    let block = out.block;
+    let answer = out.answer;
+    Made {
+        block: block,
+        answer: of_out(answer, out.datagrams, lengths, sum),
+    }
+}
 
 fn input_step(
     block: Kcp,
@@ -49,12 +85,7 @@ fn input_step(
         waiting,
         datagram,
     );
-    let after = out.block;
-    let answer = out.answer;
-    Made {
-        block: after,
-        answer: of_bytes(answer, out.skipped),
-    }
+    by_input(out)
 }
 
 fn low8(x: u32) -> u8
@@ -97,12 +128,7 @@ fn send_in(
 {
     fill(message, byte);
     let out = kcp_send::send(block, snd_records, snd_room, message);
-    let after = out.block;
-    let answer = out.answer;
-    Made {
-        block: after,
-        answer: of_bytes(answer, 0),
-    }
+    by_send(out)
 }
 
 fn send_step(block: Kcp, row: Row, snd_records: &mut [u32], snd_room: &mut [u8]) -> Made
@@ -120,18 +146,6 @@ fn send_step(block: Kcp, row: Row, snd_records: &mut [u32], snd_room: &mut [u8])
         snd_room,
         &mut message[..len],
     )
-}
-
-// What a flush left, with the sums over what it wrote.
-fn by_out(out: Out, lengths: u32, sum: u32) -> Made
-    ensures { λ r. ⌜ r ≡ made (out .block) (ofOut (out .answer) (out .datagrams) lengths sum) ⌝ }
-{
-    let after = out.block;
-    let answer = out.answer;
-    Made {
-        block: after,
-        answer: of_out(answer, out.datagrams, lengths, sum),
-    }
 }
 
 fn flush_ack_step(block: Kcp, acks: &[u32], waiting: &mut [u8]) -> Made

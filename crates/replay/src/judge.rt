@@ -12,6 +12,7 @@ use crate::answers::UNKNOWN;
 use crate::calls::make;
 use crate::looks::Made;
 use crate::looks::bit;
+use crate::looks::unplayed;
 use crate::rows::Row;
 use crate::rows::WIDTH;
 use crate::rows::row_at;
@@ -62,56 +63,46 @@ fn numbers(block: Kcp, held: u32) -> [u32; 39]
     ensures { λ r. ⌜ r ≡ numbersOf block held ⌝ }
     ensures { λ r. ⌜ 39 ≡ length r ⌝ }
 {
-    let settings = block.settings;
-    let clock = block.clock;
-    let estimator = block.estimator;
-    let congestion = block.congestion;
-    let probe = block.probe;
-    let receiver = block.receiver;
-    let acklist = block.acklist;
-    let sender = block.sender;
-    let taken = receiver.ring;
-    let flown = sender.ring;
     [
-        settings.conv,
-        settings.mtu,
-        settings.mss,
-        bit(sender.dead),
-        sender.snd_una,
-        sender.snd_nxt,
-        receiver.rcv_nxt,
-        wide16(congestion.ssthresh),
-        estimator.rttval,
-        estimator.srtt,
-        estimator.rto,
-        estimator.minrto,
-        wide16(congestion.snd_wnd),
-        wide16(receiver.rcv_wnd),
-        wide16(congestion.rmt_wnd),
-        wide16(congestion.cwnd),
-        probe.bits,
-        clock.current,
-        clock.interval,
-        clock.ts_flush,
-        sender.xmit,
-        bit(settings.nodelay),
-        bit(clock.updated),
-        probe.ts_probe,
-        probe.probe_wait,
-        settings.dead_link,
-        low_of(congestion.incr),
-        high_of(congestion.incr),
-        settings.fastresend,
-        settings.fastlimit,
-        bit(settings.nocwnd),
-        bit(settings.stream),
-        bit(settings.input_conv),
-        flown.unsent,
-        taken.queued,
-        flown.flying,
+        block.settings.conv,
+        block.settings.mtu,
+        block.settings.mss,
+        bit(block.sender.dead),
+        block.sender.snd_una,
+        block.sender.snd_nxt,
+        block.receiver.rcv_nxt,
+        wide16(block.congestion.ssthresh),
+        block.estimator.rttval,
+        block.estimator.srtt,
+        block.estimator.rto,
+        block.estimator.minrto,
+        wide16(block.congestion.snd_wnd),
+        wide16(block.receiver.rcv_wnd),
+        wide16(block.congestion.rmt_wnd),
+        wide16(block.congestion.cwnd),
+        block.probe.bits,
+        block.clock.current,
+        block.clock.interval,
+        block.clock.ts_flush,
+        block.sender.xmit,
+        bit(block.settings.nodelay),
+        bit(block.clock.updated),
+        block.probe.ts_probe,
+        block.probe.probe_wait,
+        block.settings.dead_link,
+        low_of(block.congestion.incr),
+        high_of(block.congestion.incr),
+        block.settings.fastresend,
+        block.settings.fastlimit,
+        bit(block.settings.nocwnd),
+        bit(block.settings.stream),
+        bit(block.settings.input_conv),
+        block.sender.ring.unsent,
+        block.receiver.ring.queued,
+        block.sender.ring.flying,
         held,
-        acklist.acks,
-        acklist.waiting,
+        block.acklist.acks,
+        block.acklist.waiting,
     ]
 }
 
@@ -142,10 +133,8 @@ fn same(answer: Answer, numbers: u32, row: Row) -> bool
 fn agrees(made: Made, row: Row, records: &[u32], room: &[u8]) -> bool
     ensures { λ r. ⌜ r ≡ agrees (made .answer) (made .block) (lists (now (records .entry)) (now (room .entry))) row ⌝ }
 {
-    let block = made.block;
-    let answer = made.answer;
-    let all = numbers(block, held_in(block, records, room));
-    same(answer, sum_of(&all), row)
+    let all = numbers(made.block, held_in(made.block, records, room));
+    same(made.answer, sum_of(&all), row)
 }
 
 // How many steps were made and how many agreed; the first that did not, counted from 1, or 0.
@@ -197,7 +186,7 @@ pub fn run(
 ) -> Tally
     ensures { λ r. ⌜ r ≡ judged (now (recording .entry)) (memoryOf block (now («rcv_records» .entry)) (now («rcv_room» .entry)) (now («snd_records» .entry)) (now («snd_room» .entry)) (now (acks .entry)) (now (waiting .entry))) ⌝ }
 {
-    let mut block = block;
+    let mut made = unplayed(block);
     let mut tally = Tally {
         steps: 0,
         agreed: 0,
@@ -208,8 +197,8 @@ pub fn run(
         let row = row_at(recording, at);
         let from = at + WIDTH;
         let to = from + wide(row.bytes);
-        let made = make(
-            block,
+        made = make(
+            made.block,
             row,
             &recording[from..to],
             rcv_records,
@@ -219,7 +208,6 @@ pub fn run(
             acks,
             waiting,
         );
-        block = made.block;
         tally = tally.with(agrees(made, row, rcv_records, rcv_room));
         at = to;
     }

@@ -24,6 +24,7 @@ use crate::sums::sum_of_bytes;
 use crate::sums::wide16;
 use block::Kcp;
 use block::set::Set;
+use kcp_receive::Received;
 
 // The block after a call, and what the call answered.
 pub struct Made {
@@ -126,17 +127,24 @@ fn started(block: Kcp, outcome: block::make::Made, row: Row) -> Made
     }
 }
 
+// What recv left, with the sum over its buffer.
+fn by_recv(out: Received, sum: u32) -> Made
+    ensures { λ r. ⌜ r ≡ made (out .block) (ofLength (out .answer) sum) ⌝ }
+{
+    let block = out.block;
+    let answer = out.answer;
+    Made {
+        block: block,
+        answer: of_length(answer, sum),
+    }
+}
+
 // recv into a buffer.
 fn recv_in(block: Kcp, records: &[u32], room: &[u8], buf: &mut [u8]) -> Made
     ensures { λ r. ⌜ r ≡ byRecv (recvOf block (lists (now (records .entry)) (now (room .entry))) (now (buf .entry))) ⌝ }
 {
     let out = kcp_receive::recv(block, records, room, buf);
-    let after = out.block;
-    let answer = out.answer;
-    Made {
-        block: after,
-        answer: of_length(answer, sum_of_bytes(buf)),
-    }
+    by_recv(out, sum_of_bytes(buf))
 }
 
 fn zeros_8192() -> [u8; 8192]

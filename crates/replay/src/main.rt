@@ -10,7 +10,14 @@ mod judge; // the comparison, and the run
 ghost use mathlib.Core.Path.{_≡_};
 ghost use lib.ListN.{length};
 use block::Kcp;
-use block::make::Made;
+use block::acklist::AckList;
+use block::clock::Clock;
+use block::congestion::Congestion;
+use block::probe::Probe;
+use block::receiver::Receiver;
+use block::sender::Sender;
+use block::settings::Settings;
+use estimator::Estimator;
 use judge::Tally;
 use judge::run;
 use libc::STDIN_FILENO;
@@ -61,39 +68,18 @@ fn numbers_8192() -> [u32; 8192]
     [0; 8192]
 }
 
-// Makes a fresh block over the memory lent, makes the steps from it on, and writes the tally.
-fn play(
-    recording: &[u8],
-    rcv_records: &mut [u32],
-    rcv_room: &mut [u8],
-    snd_records: &mut [u32],
-    snd_room: &mut [u8],
-    acks: &mut [u32],
-    waiting: &mut [u8],
-) {
-    let made = Kcp::new(
-        0,
-        rcv_records,
-        rcv_room,
-        snd_records,
-        snd_room,
-        acks,
-        waiting,
-    );
-    let Made::Block { block } = made else {
-        io::write_all(STDOUT_FILENO, b"no block\n");
-        return;
-    };
-    write_tally(run(
-        block,
-        recording,
-        rcv_records,
-        rcv_room,
-        snd_records,
-        snd_room,
-        acks,
-        waiting,
-    ));
+// A block before any step: the recording's first makes one anew.
+fn before() -> Kcp {
+    Kcp {
+        settings: Settings::new(0, false),
+        clock: Clock::new(Kcp::INTERVAL),
+        estimator: Estimator::new(),
+        congestion: Congestion::new(),
+        probe: Probe::new(),
+        receiver: Receiver::new(),
+        acklist: AckList::new(),
+        sender: Sender::new(),
+    }
 }
 
 // R = 1,024, P = 1,024, A = 4,096.
@@ -106,7 +92,8 @@ fn main() {
     let mut snd_room = room();
     let mut acks = numbers_8192();
     let mut waiting = [0u8; 1500];
-    play(
+    write_tally(run(
+        before(),
         &recording[..read],
         &mut rcv_records,
         &mut rcv_room,
@@ -114,5 +101,5 @@ fn main() {
         &mut snd_room,
         &mut acks,
         &mut waiting,
-    );
+    ));
 }

@@ -7,30 +7,30 @@ use Rattle.replay.proofs.calls.input_step.Tie as tie
 input-requires : tie.Need-input-requires
 input-requires c κs = search needs
 
-of-bytes-requires : tie.Need-of-bytes-requires
-of-bytes-requires c κs = search needs
+by-input-requires : tie.Need-by-input-requires
+by-input-requires c κs = search needs
 
 same-length : tie.Need-same-length
-same-length c = search needs
+same-length c = c .before .before .before .before .before .before .before .before .rcv-records .given
 
 same-length-2 : tie.Need-same-length-2
-same-length-2 c = search needs
+same-length-2 c = c .before .before .before .before .before .before .rcv-room .given
 
 same-length-3 : tie.Need-same-length-3
-same-length-3 c = search needs
+same-length-3 c = c .before .before .before .before .snd-records .given
 
 same-length-4 : tie.Need-same-length-4
-same-length-4 c = search needs
+same-length-4 c = c .before .before .acks .given
 
 returns : tie.Need-returns
-returns c = inputs _ _ (c .before .before .before .before .before .before .before .before .before .before .input .ensures .is) (c .of-bytes .ensures)
+returns c = inputs _ _ (c .before .before .before .before .before .before .before .before .before .input .ensures .is) (c .by-input .ensures)
 
 pub input-step-spec : {M : Type 1} → statement M
 input-step-spec =
     tie.close
     (tie.spec
     input-requires
-    of-bytes-requires
+    by-input-requires
     same-length
     same-length-2
     same-length-3

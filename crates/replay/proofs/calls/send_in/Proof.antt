@@ -10,8 +10,8 @@ fill-requires c κs = search needs
 send-requires : tie.Need-send-requires
 send-requires c κs = search needs
 
-of-bytes-requires : tie.Need-of-bytes-requires
-of-bytes-requires c κs = search needs
+by-send-requires : tie.Need-by-send-requires
+by-send-requires c κs = search needs
 
 same-length : tie.Need-same-length
 same-length c = search needs
@@ -23,7 +23,7 @@ same-length-3 : tie.Need-same-length-3
 same-length-3 c = search needs
 
 returns : tie.Need-returns
-returns c = sends-in _ _ _ _ (c .before .before .before .before .before .before .before .before .before .before .before .before .fill .ensures) (c .before .before .before .before .before .before .send .ensures .is) (c .of-bytes .ensures)
+returns c = sends-in _ _ _ _ (c .before .before .before .before .before .before .before .before .before .before .before .fill .ensures) (c .before .before .before .before .before .send .ensures .is) (c .by-send .ensures)
 
 pub send-in-spec : {M : Type 1} → statement M
 send-in-spec =
@@ -31,7 +31,7 @@ send-in-spec =
     (tie.spec
     fill-requires
     send-requires
-    of-bytes-requires
+    by-send-requires
     same-length
     same-length-2
     same-length-3

@@ -8,19 +8,19 @@ use Rattle.replay.proofs.calls.send_step.Statement.{statement}
 use Rattle.replay.proofs.calls.send_step.Tie as tie
 
 wide-requires : tie.Need-wide-requires
-wide-requires c κs = search needs
+wide-requires c κs = tt
 
 unplayed-requires : tie.Need-unplayed-requires
-unplayed-requires c κs = search needs
+unplayed-requires c κs = tt
 
 returns : tie.Need-returns
 returns c = send-long _ _ _ (c .unplayed .ensures) (c .before .before .wide .ensures .0) (c .before .if1 .taken)
 
 zeros-4096-requires : tie.Need-zeros-4096-requires
-zeros-4096-requires c κs = search needs
+zeros-4096-requires c κs = tt
 
 low8-requires : tie.Need-low8-requires
-low8-requires c κs = search needs
+low8-requires c κs = tt
 
 array-borrow-prefix-message : tie.Need-array-borrow-prefix-message
 array-borrow-prefix-message c = search needs
@@ -29,7 +29,7 @@ slice-aggregate-send-in : tie.Need-slice-aggregate-send-in
 slice-aggregate-send-in c = sym (length-take-le _ _ (omega arith))
 
 send-in-requires : tie.Need-send-in-requires
-send-in-requires c κs = search needs
+send-in-requires c κs = tt
 
 same-length : tie.Need-same-length
 same-length c = search needs

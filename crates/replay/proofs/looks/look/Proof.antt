@@ -5,34 +5,34 @@ use Rattle.replay.proofs.looks.look.Statement.{statement}
 use Rattle.replay.proofs.looks.look.Tie as tie
 
 fresh-requires : tie.Need-fresh-requires
-fresh-requires c κs = search needs
+fresh-requires c κs = tt
 
 started-requires : tie.Need-started-requires
-started-requires c κs = search needs
+started-requires c κs = tt
 
 returns : tie.Need-returns
 returns c = look-start _ _ _ _ (c .before .fresh .ensures) (c .started .ensures) (c .before .before .if1 .taken)
 
 receive-step-requires : tie.Need-receive-step-requires
-receive-step-requires c κs = search needs
+receive-step-requires c κs = tt
 
 returns-2 : tie.Need-returns-2
 returns-2 c = look-receive _ _ _ _ (c .before .before .before .if1 .left) (c .receive-step .ensures) (c .before .if2 .taken)
 
 check-step-requires : tie.Need-check-step-requires
-check-step-requires c κs = search needs
+check-step-requires c κs = tt
 
 returns-3 : tie.Need-returns-3
 returns-3 c = look-check _ _ _ _ (c .before .before .before .before .before .if1 .left) (c .before .before .before .if2 .left) (c .check-step .ensures) (c .before .if3 .taken)
 
 windows-step-requires : tie.Need-windows-step-requires
-windows-step-requires c κs = search needs
+windows-step-requires c κs = tt
 
 returns-4 : tie.Need-returns-4
 returns-4 c = look-windows _ _ _ _ (c .before .before .before .before .before .before .before .if1 .left) (c .before .before .before .before .before .if2 .left) (c .windows-step .ensures) (c .before .before .before .if3 .left) (c .before .if4 .taken)
 
 unlent-requires : tie.Need-unlent-requires
-unlent-requires c κs = search needs
+unlent-requires c κs = tt
 
 returns-5 : tie.Need-returns-5
 returns-5 c = look-unlent _ _ _ _ (c .before .before .before .before .before .before .before .if1 .left) (c .before .before .before .before .before .if2 .left) (c .unlent .ensures) (c .before .before .before .if3 .left) (c .before .if4 .left)

@@ -5,25 +5,25 @@ use Rattle.replay.proofs.looks.receive_step.Statement.{statement}
 use Rattle.replay.proofs.looks.receive_step.Tie as tie
 
 wide-requires : tie.Need-wide-requires
-wide-requires c κs = search needs
+wide-requires c κs = tt
 
 recv-step-requires : tie.Need-recv-step-requires
-recv-step-requires c κs = search needs
+recv-step-requires c κs = tt
 
 returns : tie.Need-returns
 returns c = receives _ _ _ (c .before .wide .ensures .0) (c .recv-step .ensures) (c .before .before .if1 .taken)
 
 peeksize-step-requires : tie.Need-peeksize-step-requires
-peeksize-step-requires c κs = search needs
+peeksize-step-requires c κs = tt
 
 returns-2 : tie.Need-returns-2
 returns-2 c = peeks _ _ _ (c .peeksize-step .ensures) (c .before .before .before .if1 .left) (c .before .if2 .taken)
 
 move-buf-requires : tie.Need-move-buf-requires
-move-buf-requires c κs = search needs
+move-buf-requires c κs = tt
 
 by-set-requires : tie.Need-by-set-requires
-by-set-requires c κs = search needs
+by-set-requires c κs = tt
 
 returns-3 : tie.Need-returns-3
 returns-3 c = moves _ _ _ (c .before .move-buf .ensures .is) (c .by-set .ensures) (c .before .before .before .before .if1 .left) (c .before .before .if2 .left)

@@ -10,15 +10,15 @@ recv-requires c κs = search needs
 sum-of-bytes-requires : tie.Need-sum-of-bytes-requires
 sum-of-bytes-requires c κs = search needs
 
-of-length-requires : tie.Need-of-length-requires
-of-length-requires c κs = search needs
+by-recv-requires : tie.Need-by-recv-requires
+by-recv-requires c κs = search needs
 
 same-length : tie.Need-same-length
-same-length c = search needs
+same-length c = c .before .before .before .before .buf .given
 
 returns : tie.Need-returns
-returns c = recv-made (c .before .before .before .before .before .before .recv .ensures .is) (c .before .sum-of-bytes .ensures) (c .of-length .ensures)
+returns c = recv-made (c .before .before .before .before .before .recv .ensures .is) (c .before .sum-of-bytes .ensures) (c .by-recv .ensures)
 
 pub recv-in-spec : {M : Type 1} → statement M
 recv-in-spec =
-    tie.close (tie.spec recv-requires sum-of-bytes-requires of-length-requires same-length returns)
+    tie.close (tie.spec recv-requires sum-of-bytes-requires by-recv-requires same-length returns)

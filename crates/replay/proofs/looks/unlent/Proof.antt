@@ -5,19 +5,19 @@ use Rattle.replay.proofs.looks.unlent.Statement.{statement}
 use Rattle.replay.proofs.looks.unlent.Tie as tie
 
 setting-step-requires : tie.Need-setting-step-requires
-setting-step-requires c κs = search needs
+setting-step-requires c κs = tt
 
 returns : tie.Need-returns
 returns c = unlent-set _ _ _ (c .setting-step .ensures) (c .before .if1 .taken)
 
 getting-step-requires : tie.Need-getting-step-requires
-getting-step-requires c κs = search needs
+getting-step-requires c κs = tt
 
 returns-2 : tie.Need-returns-2
 returns-2 c = unlent-get _ _ _ (c .getting-step .ensures) (c .before .before .before .if1 .left) (c .before .if2 .taken)
 
 helped-requires : tie.Need-helped-requires
-helped-requires c κs = search needs
+helped-requires c κs = tt
 
 returns-3 : tie.Need-returns-3
 returns-3 c = unlent-help _ _ _ (c .helped .ensures) (c .before .before .before .if1 .left) (c .before .if2 .left)
