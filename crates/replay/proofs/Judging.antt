@@ -5,7 +5,10 @@ use mathlib.Core.Path.{_≡_, refl, sym, ap, _∙_}
 use mathlib.Core.Bool.{Bool, true, false}
 use mathlib.Core.List.{List, [], _∷_}
 use lib.ListN.{length, take, drop}
+use lib.Dec.{eqb}
+use borrow.Author.Tests.{eq-eqb, ne-eqb}
 use Rattle.serial.specs.Branch.{pick, pick-true, pick-false}
+use Rattle.block.proofs.Together.{goes as on, stops}
 use Rattle.ring.specs.Lists.{Lists}
 use Rattle.block.specs.declared.Kcp.{Kcp}
 use Rattle.history.specs.Calls.{Memory}
@@ -115,3 +118,29 @@ module _ (s : List ℕ) where
 pub from-block : (s rr rm sr sm a w : List ℕ) {k : Kcp} {x : Made} {u : Answer} → x ≡ made k u → {t : Tally}
     → t ≡ judged s (memoryOf (x .block) rr rm sr sm a w) → t ≡ judged s (memoryOf k rr rm sr sm a w)
 from-block s rr rm sr sm a w e f = f ∙ ap (λ (x : Made). judged s (memoryOf (x .block) rr rm sr sm a w)) e
+
+-- ---- the five numbers, one by one
+
+module _ (a : Answer) (n : ℕ) (r : Row) where
+  pub differs : (a .refusal ≡ r .refusal → ⊥) → false ≡ same a n r
+  unfolding same
+  differs h = stops _ (ne-eqb _ _ h)
+
+  module _ (refusals : a .refusal ≡ r .refusal) {v : ℕ} (first : v ≡ r .first) where
+    pub differs-first : (a .first ≡ v → ⊥) → false ≡ same a n r
+    unfolding same
+    differs-first h = stops _ (ne-eqb _ _ (λ x. h (x ∙ sym first))) ∙ on _ (eq-eqb _ _ refusals)
+
+    module _ (firsts : a .first ≡ v) {w : ℕ} (second : w ≡ r .second) where
+      pub differs-second : (a .second ≡ w → ⊥) → false ≡ same a n r
+      unfolding same
+      differs-second h = stops _ (ne-eqb _ _ (λ x. h (x ∙ sym second))) ∙ on _ (eq-eqb _ _ (firsts ∙ first)) ∙ on _ (eq-eqb _ _ refusals)
+
+      module _ (seconds : a .second ≡ w) where
+        pub differs-sum : (a .sum ≡ r .sum → ⊥) → false ≡ same a n r
+        unfolding same
+        differs-sum h = stops _ (ne-eqb _ _ h) ∙ on _ (eq-eqb _ _ (seconds ∙ second)) ∙ on _ (eq-eqb _ _ (firsts ∙ first)) ∙ on _ (eq-eqb _ _ refusals)
+
+        pub same-numbers : a .sum ≡ r .sum → eqb n (r .numbers) ≡ same a n r
+        unfolding same
+        same-numbers h = on _ (eq-eqb _ _ h) ∙ on _ (eq-eqb _ _ (seconds ∙ second)) ∙ on _ (eq-eqb _ _ (firsts ∙ first)) ∙ on _ (eq-eqb _ _ refusals)

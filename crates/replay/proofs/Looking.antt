@@ -1,9 +1,9 @@
 -- The calls that change no lent memory: each step of the code against its definition. Assumes nothing.
-use Prim.Native.Nat.{ℕ, _<_, _≤_}
+use Prim.Native.Nat.{ℕ, _+_, _<_, _≤_}
 use native.Mathlib.Omega.{arith}
 use mathlib.Core.Path.{_≡_, refl, sym, ap, _∙_}
 use mathlib.Core.Bool.{Bool}
-use mathlib.Core.List.{List, [], _++_, append-nil}
+use mathlib.Core.List.{List, [], _∷_, _++_, append-nil}
 use lib.ListN.{length, take, drop, drop-of-length-le}
 use lib.Seq.{take-length}
 use lib.IntN.{ℤ}
@@ -29,7 +29,7 @@ use Rattle.serial.specs.Wrap.{low16}
 use Rattle.replay.specs.declared.rows.Row.{Row}
 use Rattle.replay.specs.declared.answers.Answer.{Answer}
 use Rattle.replay.specs.declared.looks.Made.{Made}
-use Rattle.replay.specs.Sums.{sumOf, zeros}
+use Rattle.replay.specs.Sums.{sumOf, zeros, bit, low32}
 use Rattle.replay.specs.Answers.{told, unknown, ofLength, ofWait, ofNumber, ofPut}
 use Rattle.replay.specs.Looks.{made, bySet, byRecv, flag, freshOf, started, setBy, settingOf, gotten, putIn, helped, unlentOf, recvStep, receiveOf, lookOf}
 use Rattle.replay.proofs.Branches.{is, other, under, over}
@@ -59,12 +59,29 @@ module _ (r : Row) (k : Kcp) where
   unfolding settingOf
   set-mtu g f e h = e ∙ ap bySet (f ∙ ap (setMtu k) g) ∙ sym (is _ _ h)
 
-  pub set-any : {b : Kcp} → b ≡ setBy r k → {x : Made} → x ≡ made b (told 0 0) → (r .code ≡ 11 → ⊥) → x ≡ settingOf r k
+  pub set-any : {b : Kcp} → b ≡ setBy r k → {a : Answer} → a ≡ told 0 0 → (r .code ≡ 11 → ⊥) → made b a ≡ settingOf r k
   unfolding settingOf
-  set-any f e h = e ∙ ap (λ (b : Kcp). made b (told 0 0)) f ∙ sym (other _ _ h)
+  set-any {b} f e h = ap (made b) e ∙ ap (λ (b : Kcp). made b (told 0 0)) f ∙ sym (other _ _ h)
 
-pub got-all : (k : Kcp) {g : List ℕ} {n : ℕ} {a : Answer} → g ≡ gotten k → n ≡ sumOf g → a ≡ told 0 n → made k a ≡ made k (told 0 (sumOf (gotten k)))
-got-all k f g e = ap (made k) (e ∙ ap (told 0) (g ∙ ap sumOf f))
+pub got-all : (k : Kcp) {g : List ℕ} {n : ℕ} → g ≡ gotten k → n ≡ sumOf g → made k (told 0 n) ≡ made k (told 0 (sumOf (gotten k)))
+got-all k f e = ap (λ (n : ℕ). made k (told 0 n)) (e ∙ ap sumOf f)
+
+-- what the getters answer, in a row
+pub gotten-are : (k : Kcp) {conv waits mtu mtu′ mss mss′ snd snd′ rcv rcv′ rmt rmt′ left left′ head head′ stream dead : ℕ} {waits′ stream′ dead′ : Bool}
+    → conv ≡ k .settings .conv
+    → waits′ ≡ k .settings .«input_conv» → waits ≡ bit waits′
+    → mtu′ ≡ k .settings .mtu → mtu ≡ low32 mtu′
+    → mss′ ≡ k .settings .mss → mss ≡ low32 mss′
+    → snd′ ≡ k .congestion .«snd_wnd» → snd ≡ snd′
+    → rcv′ ≡ k .receiver .«rcv_wnd» → rcv ≡ rcv′
+    → rmt′ ≡ k .congestion .«rmt_wnd» → rmt ≡ rmt′
+    → left′ ≡ k .sender .ring .flying + k .sender .ring .unsent → left ≡ low32 left′
+    → head′ ≡ 24 → head ≡ low32 head′
+    → stream′ ≡ k .settings .stream → stream ≡ bit stream′
+    → dead′ ≡ k .sender .dead → dead ≡ bit dead′
+    → _≡_ {A = List ℕ} (conv ∷ waits ∷ mtu ∷ mss ∷ snd ∷ rcv ∷ rmt ∷ left ∷ head ∷ stream ∷ dead ∷ []) (gotten k)
+unfolding gotten
+gotten-are k a b c d e f g h i j l m n o p q r s t u v = rw (a, c, b, e, d, g, f, i, h, l, j, n, m, p, o, r, q, t, s, v, u)
 
 -- the copy is as long as the bytes, so that all of it is they
 pub put-made : (s b : List ℕ) (conv : ℕ) → length b ≡ length s → {y z : List ℕ} → y ≡ take (length s) s ++ drop (length s) b → {p : Put} → ConvSet y conv p z
@@ -140,9 +157,16 @@ module _ (r : Row) (k : Kcp) (l : Lists) {x : Made} where
   unfolding receiveOf
   peeks e h i = e ∙ sym (other _ _ h ∙ is _ _ i)
 
-  pub moves : {s : Set} → s ≡ moveBufOf k l → x ≡ bySet s → (r .code ≡ 6 → ⊥) → (r .code ≡ 7 → ⊥) → x ≡ receiveOf r k l
+  pub moves : {s : Set} → s ≡ moveBufOf k l → x ≡ bySet s → (r .code ≡ 6 → ⊥) → (r .code ≡ 7 → ⊥) → r .code ≡ 8 → x ≡ receiveOf r k l
   unfolding receiveOf
-  moves f e h i = e ∙ ap bySet f ∙ sym (other _ _ h ∙ other _ _ i)
+  moves f e h i j = e ∙ ap bySet f ∙ sym (other _ _ h ∙ other _ _ i ∙ is _ _ j)
+
+  pub sets-windows : {a b : ℕ} → a ≡ low16 (r .a) → b ≡ low16 (r .b) → {s : Set} → s ≡ setWndsizeOf k l a b → x ≡ bySet s
+      → (r .code ≡ 6 → ⊥) → (r .code ≡ 7 → ⊥) → (r .code ≡ 8 → ⊥) → x ≡ receiveOf r k l
+  unfolding receiveOf
+  sets-windows {a} {b} f g {s} i e h j m =
+      let w : s ≡ setWndsizeOf k l (low16 (r .a)) (low16 (r .b)) = i ∙ rw (f, g) in
+      e ∙ ap bySet w ∙ sym (other _ _ h ∙ other _ _ j ∙ other _ _ m)
 
 -- ---- each by its code
 
@@ -152,19 +176,15 @@ module _ (r : Row) (s : List ℕ) (k : Kcp) (l : Lent) {x : Made} where
   look-start f e h = e ∙ ap (started r k) f ∙ sym (is _ _ h)
 
   module _ (not5 : r .code ≡ 5 → ⊥) where
-    pub look-receive : x ≡ receiveOf r k (l .rcv) → r .code < 9 → x ≡ lookOf r s k l
+    pub look-receive : x ≡ receiveOf r k (l .rcv) → r .code < 10 → x ≡ lookOf r s k l
     unfolding lookOf
     look-receive e h = e ∙ sym (other _ _ not5 ∙ under _ _ h)
 
-    module _ (past : 9 ≤ r .code) where
-      pub look-check : x ≡ made k (ofWait (checkOf k (l .snd) (r .a))) → r .code ≡ 9 → x ≡ lookOf r s k l
+    module _ (past : 10 ≤ r .code) where
+      pub look-check : x ≡ made k (ofWait (checkOf k (l .snd) (r .a))) → r .code ≡ 10 → x ≡ lookOf r s k l
       unfolding lookOf
       look-check e h = e ∙ sym (other _ _ not5 ∙ over _ _ past ∙ is _ _ h)
 
-      pub look-windows : x ≡ bySet (setWndsizeOf k (l .rcv) (low16 (r .a)) (low16 (r .b))) → (r .code ≡ 9 → ⊥) → r .code ≡ 10 → x ≡ lookOf r s k l
+      pub look-unlent : x ≡ unlentOf r s k → (r .code ≡ 10 → ⊥) → x ≡ lookOf r s k l
       unfolding lookOf
-      look-windows e h i = e ∙ sym (other _ _ not5 ∙ over _ _ past ∙ other _ _ h ∙ is _ _ i)
-
-      pub look-unlent : x ≡ unlentOf r s k → (r .code ≡ 9 → ⊥) → (r .code ≡ 10 → ⊥) → x ≡ lookOf r s k l
-      unfolding lookOf
-      look-unlent e h i = e ∙ sym (other _ _ not5 ∙ over _ _ past ∙ other _ _ h ∙ other _ _ i)
+      look-unlent e h = e ∙ sym (other _ _ not5 ∙ over _ _ past ∙ other _ _ h)

@@ -40,7 +40,7 @@ numbersOf k held =
 -- all five numbers of the Rust's are the same
 unfoldable pub same : Answer → ℕ → Row → Bool
 same a numbers r =
-    (eqb (a .refusal) (r .refusal) && (eqb (a .first) (r .first) && eqb (a .second) (r .second))) && (eqb (a .sum) (r .sum) && eqb numbers (r .numbers))
+    eqb (a .refusal) (r .refusal) && (eqb (a .first) (r .first) && (eqb (a .second) (r .second) && (eqb (a .sum) (r .sum) && eqb numbers (r .numbers))))
 
 unfoldable pub agrees : Answer → Kcp → Lists → Row → Bool
 agrees a k rcv r = same a (sumOf (numbersOf k (heldIn k rcv))) r

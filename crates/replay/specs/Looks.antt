@@ -94,11 +94,12 @@ recvStep n k l = pick (ltb 8192 n) (made k unknown) (byRecv (recvOf k l (zeros n
 
 unfoldable pub receiveOf : Row → Kcp → Lists → Made
 receiveOf r k l =
-    pick (eqb (r .code) 6) (recvStep (r .a) k l) (pick (eqb (r .code) 7) (made k (ofLength (peeksizeOf k l) 0)) (bySet (moveBufOf k l)))
+    pick (eqb (r .code) 6) (recvStep (r .a) k l)
+    (pick (eqb (r .code) 7) (made k (ofLength (peeksizeOf k l) 0))
+    (pick (eqb (r .code) 8) (bySet (moveBufOf k l)) (bySet (setWndsizeOf k l (low16 (r .a)) (low16 (r .b))))))
 
 unfoldable pub lookOf : Row → List ℕ → Kcp → Lent → Made
 lookOf r s k l =
     pick (eqb (r .code) 5) (started r k (freshOf r l))
-    (pick (ltb (r .code) 9) (receiveOf r k (l .rcv))
-    (pick (eqb (r .code) 9) (made k (ofWait (checkOf k (l .snd) (r .a))))
-    (pick (eqb (r .code) 10) (bySet (setWndsizeOf k (l .rcv) (low16 (r .a)) (low16 (r .b)))) (unlentOf r s k))))
+    (pick (ltb (r .code) 10) (receiveOf r k (l .rcv))
+    (pick (eqb (r .code) 10) (made k (ofWait (checkOf k (l .snd) (r .a)))) (unlentOf r s k)))

@@ -1,6 +1,6 @@
 // What a call answers, as the numbers of a step.
 ghost use mathlib.Core.Path.{_≡_};
-ghost use Rattle.replay.specs.Answers.{told, refusedBy, short, unknown, ofAnswer, ofBytes, ofLength, ofWait, ofNumber, ofPut, ofOut};
+ghost use Rattle.replay.specs.Answers.{refusedBy, unknown, ofAnswer, ofBytes, ofLength, ofWait, ofNumber, ofPut, ofOut};
 use block::refusal::Bytes;
 use block::refusal::Refusal;
 use kcp_flush::Wait;
@@ -30,19 +30,7 @@ pub fn unknown() -> Answer
     }
 }
 
-// A call that is not refused.
-pub fn told(n: usize, sum: u32) -> Answer
-    ensures { λ r. ⌜ r ≡ told n sum ⌝ }
-{
-    Answer {
-        refusal: 0,
-        first: n,
-        second: 0,
-        sum: sum,
-    }
-}
-
-// A call that is.
+// A call that is refused.
 fn refused_by(why: Refusal, sum: u32) -> Answer
     ensures { λ r. ⌜ r ≡ refusedBy why sum ⌝ }
 {
@@ -55,23 +43,16 @@ fn refused_by(why: Refusal, sum: u32) -> Answer
     }
 }
 
-// A header helper that is.
-fn short(sum: u32) -> Answer
-    ensures { λ r. ⌜ r ≡ short sum ⌝ }
-{
-    Answer {
-        refusal: wire::SHORT_HEADER,
-        first: 0,
-        second: 0,
-        sum: sum,
-    }
-}
-
 pub fn of_answer(answer: block::refusal::Answer) -> Answer
     ensures { λ r. ⌜ r ≡ ofAnswer answer ⌝ }
 {
     match answer {
-        block::refusal::Answer::Done => told(0, 0),
+        block::refusal::Answer::Done => Answer {
+            refusal: 0,
+            first: 0,
+            second: 0,
+            sum: 0,
+        },
         block::refusal::Answer::Refused { why } => refused_by(why, 0),
     }
 }
@@ -80,7 +61,12 @@ pub fn of_bytes(answer: Bytes, sum: u32) -> Answer
     ensures { λ r. ⌜ r ≡ ofBytes answer sum ⌝ }
 {
     match answer {
-        Bytes::Are { count } => told(count, sum),
+        Bytes::Are { count } => Answer {
+            refusal: 0,
+            first: count,
+            second: 0,
+            sum: sum,
+        },
         Bytes::Refused { why } => refused_by(why, sum),
     }
 }
@@ -89,7 +75,12 @@ pub fn of_length(answer: Length, sum: u32) -> Answer
     ensures { λ r. ⌜ r ≡ ofLength answer sum ⌝ }
 {
     match answer {
-        Length::Is { length } => told(length, sum),
+        Length::Is { length } => Answer {
+            refusal: 0,
+            first: length,
+            second: 0,
+            sum: sum,
+        },
         Length::Refused { why } => refused_by(why, sum),
     }
 }
@@ -98,7 +89,12 @@ pub fn of_wait(answer: Wait) -> Answer
     ensures { λ r. ⌜ r ≡ ofWait answer ⌝ }
 {
     match answer {
-        Wait::Is { wait } => told(crate::rows::wide(wait), 0),
+        Wait::Is { wait } => Answer {
+            refusal: 0,
+            first: crate::rows::wide(wait),
+            second: 0,
+            sum: 0,
+        },
         Wait::Refused { why } => refused_by(why, 0),
     }
 }
@@ -107,8 +103,18 @@ pub fn of_number(answer: Number) -> Answer
     ensures { λ r. ⌜ r ≡ ofNumber answer ⌝ }
 {
     match answer {
-        Number::Is(n) => told(crate::rows::wide(n), 0),
-        Number::ShortHeader => short(0),
+        Number::Is(n) => Answer {
+            refusal: 0,
+            first: crate::rows::wide(n),
+            second: 0,
+            sum: 0,
+        },
+        Number::ShortHeader => Answer {
+            refusal: wire::SHORT_HEADER,
+            first: 0,
+            second: 0,
+            sum: 0,
+        },
     }
 }
 
@@ -116,8 +122,18 @@ pub fn of_put(answer: Put, sum: u32) -> Answer
     ensures { λ r. ⌜ r ≡ ofPut answer sum ⌝ }
 {
     match answer {
-        Put::Done => told(0, sum),
-        Put::ShortHeader => short(sum),
+        Put::Done => Answer {
+            refusal: 0,
+            first: 0,
+            second: 0,
+            sum: sum,
+        },
+        Put::ShortHeader => Answer {
+            refusal: wire::SHORT_HEADER,
+            first: 0,
+            second: 0,
+            sum: sum,
+        },
     }
 }
 

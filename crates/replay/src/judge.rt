@@ -1,6 +1,5 @@
 // Whether what the port answers and leaves is what the Rust answered and left, and the run over the recording.
 ghost use mathlib.Core.Path.{_≡_};
-ghost use mathlib.Core.Bool.{_&&_};
 ghost use Prim.Native.Nat.{_/_, _^_, _<_, _≤_};
 ghost use lib.ListN.{length};
 ghost use Rattle.ring.specs.Lists.{lists};
@@ -106,27 +105,23 @@ fn numbers(block: Kcp, held: u32) -> [u32; 39]
     ]
 }
 
-// Whether both hold.
-fn both(a: bool, b: bool) -> bool
-    ensures { λ r. ⌜ r ≡ (a && b) ⌝ }
-{
-    if a { b } else { false }
-}
-
 // Whether the five numbers of the Rust's are these.
 fn same(answer: Answer, numbers: u32, row: Row) -> bool
     ensures { λ r. ⌜ r ≡ same answer numbers row ⌝ }
 {
-    both(
-        both(
-            answer.refusal == row.refusal,
-            both(
-                answer.first == wide(row.first),
-                answer.second == wide(row.second),
-            ),
-        ),
-        both(answer.sum == row.sum, numbers == row.numbers),
-    )
+    if answer.refusal != row.refusal {
+        return false;
+    }
+    if answer.first != wide(row.first) {
+        return false;
+    }
+    if answer.second != wide(row.second) {
+        return false;
+    }
+    if answer.sum != row.sum {
+        return false;
+    }
+    numbers == row.numbers
 }
 
 // Whether a call answered and left what the step says.

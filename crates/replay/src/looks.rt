@@ -1,10 +1,10 @@
 // The calls that change no lent memory, made on the port.
 ghost use mathlib.Core.Path.{_≡_};
 ghost use lib.ListN.{length};
-ghost use Rattle.serial.specs.Wrap.{low16, signed32};
+ghost use Rattle.serial.specs.Wrap.{signed32};
 ghost use Rattle.ring.specs.Lists.{lists};
 ghost use Rattle.wire.specs.Helpers.{putOf, withConv};
-ghost use Rattle.kcp_receive.specs.Calls.{peeksizeOf, recvOf, setWndsizeOf};
+ghost use Rattle.kcp_receive.specs.Calls.{peeksizeOf, recvOf};
 ghost use Rattle.kcp_flush.specs.Calls.{checkOf};
 ghost use Rattle.replay.specs.Sums.{sumOf, zeros, bit, low32};
 ghost use Rattle.replay.specs.Answers.{told, unknown, ofLength, ofWait, ofPut};
@@ -15,7 +15,6 @@ use crate::answers::of_length;
 use crate::answers::of_number;
 use crate::answers::of_put;
 use crate::answers::of_wait;
-use crate::answers::told;
 use crate::answers::unknown;
 use crate::rows::Row;
 use crate::rows::wide;
@@ -44,16 +43,6 @@ pub fn unplayed(block: Kcp) -> Made
     Made {
         block: block,
         answer: unknown(),
-    }
-}
-
-// A block that a setter left.
-fn set_to(block: Kcp) -> Made
-    ensures { λ r. ⌜ r ≡ made block (told 0 0) ⌝ }
-{
-    Made {
-        block: block,
-        answer: told(0, 0),
     }
 }
 
@@ -119,7 +108,10 @@ fn started(block: Kcp, outcome: block::make::Made, row: Row) -> Made
     ensures { λ r. ⌜ r ≡ started row block outcome ⌝ }
 {
     match outcome {
-        block::make::Made::Block { block: fresh } => set_to(starts_at(fresh, row.c, row.d)),
+        block::make::Made::Block { block: fresh } => Made {
+            block: starts_at(fresh, row.c, row.d),
+            answer: of_answer(block::refusal::Answer::Done),
+        },
         block::make::Made::Refused { why } => Made {
             block: block,
             answer: of_answer(block::refusal::Answer::Refused { why: why }),
@@ -173,7 +165,7 @@ fn peeksize_step(block: Kcp, records: &[u32], room: &[u8]) -> Made
     }
 }
 
-// recv, peeksize and move_buf.
+// recv, peeksize, move_buf and set_wndsize.
 fn receive_step(block: Kcp, row: Row, records: &[u32], room: &[u8]) -> Made
     ensures { λ r. ⌜ r ≡ receiveOf row block (lists (now (records .entry)) (now (room .entry))) ⌝ }
 {
@@ -183,7 +175,12 @@ fn receive_step(block: Kcp, row: Row, records: &[u32], room: &[u8]) -> Made
     if row.code == 7 {
         return peeksize_step(block, records, room);
     }
-    by_set(kcp_receive::move_buf(block, records, room))
+    if row.code == 8 {
+        return by_set(kcp_receive::move_buf(block, records, room));
+    }
+    let snd = serial::low16(row.a);
+    let rcv = serial::low16(row.b);
+    by_set(kcp_receive::set_wndsize(block, snd, rcv, records, room))
 }
 
 fn check_step(block: Kcp, row: Row, records: &[u32], room: &[u8]) -> Made
@@ -193,18 +190,6 @@ fn check_step(block: Kcp, row: Row, records: &[u32], room: &[u8]) -> Made
         block: block,
         answer: of_wait(kcp_flush::check(block, row.a, records, room)),
     }
-}
-
-fn windows_step(block: Kcp, row: Row, records: &[u32], room: &[u8]) -> Made
-    ensures { λ r. ⌜ r ≡ bySet (setWndsizeOf block (lists (now (records .entry)) (now (room .entry))) (low16 (row .a)) (low16 (row .b))) ⌝ }
-{
-    by_set(kcp_receive::set_wndsize(
-        block,
-        serial::low16(row.a),
-        serial::low16(row.b),
-        records,
-        room,
-    ))
 }
 
 // A number read as a signed one.
@@ -247,7 +232,10 @@ fn setting_step(block: Kcp, row: Row) -> Made
     if row.code == 11 {
         return by_set(block.set_mtu(wide(row.a)));
     }
-    set_to(set_by(block, row))
+    Made {
+        block: set_by(block, row),
+        answer: of_answer(block::refusal::Answer::Done),
+    }
 }
 
 // A flag as 0 or 1, and the low 32 bits of a wider number.
@@ -289,7 +277,12 @@ fn getting_step(block: Kcp) -> Made
     let all = gotten(block);
     Made {
         block: block,
-        answer: told(0, sum_of(&all)),
+        answer: Answer {
+            refusal: 0,
+            first: 0,
+            second: 0,
+            sum: sum_of(&all),
+        },
     }
 }
 
@@ -371,14 +364,11 @@ pub fn look(
             row,
         );
     }
-    if row.code < 9 {
+    if row.code < 10 {
         return receive_step(block, row, rcv_records, rcv_room);
     }
-    if row.code == 9 {
-        return check_step(block, row, snd_records, snd_room);
-    }
     if row.code == 10 {
-        return windows_step(block, row, rcv_records, rcv_room);
+        return check_step(block, row, snd_records, snd_room);
     }
     unlent(block, row, handed)
 }

@@ -20,8 +20,8 @@
 //!      1 send: len, byte; the byte at index i is (byte + 7 i) mod 256
 //!      2 flush_ack       3 flush       4 update: current; from here on no call changes the memory that a host lends
 //!      5 a block made anew: conv, stream, the numbers that receiving and sending start from
-//!      6 recv: the buffer's length       7 peeksize       8 move_buf       9 check: current
-//!     10 set_wndsize: snd, rcv     11 set_mtu     12 set_interval     13 set_nodelay: nodelay, interval, resend, nc
+//!      6 recv: the buffer's length       7 peeksize       8 move_buf       9 set_wndsize: snd, rcv
+//!     10 check: current     11 set_mtu     12 set_interval     13 set_nodelay: nodelay, interval, resend, nc
 //!     14 set_rx_minrto     15 set_fast_resend     16 set_maximum_resend_times     17 input_conv     18 set_conv
 //!     19 every getter, and the sum of what they answer: conv, waiting_conv, mtu, mss, snd_wnd, rcv_wnd, rmt_wnd, wait_snd, header_len,
 //!        is_stream, is_dead_link, a flag as 0 or 1
@@ -140,8 +140,8 @@ fn words(call: &Call) -> Option<[u32; 5]> {
         Call::FlushAck => [2, 0, 0, 0, 0],
         Call::Flush => [3, 0, 0, 0, 0],
         Call::Update(current) => [4, *current, 0, 0, 0],
-        Call::Check(current) => [9, *current, 0, 0, 0],
-        Call::SetWndsize(snd, rcv) => [10, *snd as u32, *rcv as u32, 0, 0],
+        Call::Check(current) => [10, *current, 0, 0, 0],
+        Call::SetWndsize(snd, rcv) => [9, *snd as u32, *rcv as u32, 0, 0],
         Call::SetMtu(mtu) => [11, *mtu as u32, 0, 0, 0],
         Call::SetInterval(n) => [12, *n, 0, 0, 0],
         Call::SetNodelay(nodelay, interval, resend, nc) => [13, *nodelay as u32, *interval as u32, *resend as u32, *nc as u32],

@@ -7,31 +7,16 @@ enum-known-answer : tie.Need-enum-known-answer
 enum-known-answer c = search needs
 
 wide-requires : tie.Need-wide-requires
-wide-requires c κs = search needs
-
-told-requires : tie.Need-told-requires
-told-requires c κs = search needs
+wide-requires c κs = tt
 
 enum-told : tie.Need-enum-told
 enum-told c = search needs
 
-short-requires : tie.Need-short-requires
-short-requires c κs = search needs
-
 returns : tie.Need-returns
-returns c = rw (c .before .before .before .answer .given .1, ← c .before .wide .ensures .0) (c .told .ensures)
+returns c = rw (c .before .before .answer .given .1, c .wide .ensures .0)
 
 returns-2 : tie.Need-returns-2
-returns-2 c = rw (c .before .enum-told .given .1) (c .short .ensures)
+returns-2 c = rw (c .enum-told .given .1)
 
 pub of-number-spec : {M : Type 1} → statement M
-of-number-spec =
-    tie.close
-    (tie.spec
-    enum-known-answer
-    wide-requires
-    told-requires
-    enum-told
-    short-requires
-    returns
-    returns-2)
+of-number-spec = tie.close (tie.spec enum-known-answer wide-requires enum-told returns returns-2)

@@ -7,19 +7,16 @@ enum-known-answer : tie.Need-enum-known-answer
 enum-known-answer c = search needs
 
 wide-requires : tie.Need-wide-requires
-wide-requires c κs = search needs
-
-told-requires : tie.Need-told-requires
-told-requires c κs = search needs
+wide-requires c κs = tt
 
 enum-known-answer-2 : tie.Need-enum-known-answer-2
 enum-known-answer-2 c = search needs
 
 refused-by-requires : tie.Need-refused-by-requires
-refused-by-requires c κs = search needs
+refused-by-requires c κs = tt
 
 returns : tie.Need-returns
-returns c = rw (c .before .before .before .answer .given .1, ← c .before .wide .ensures .0) (c .told .ensures)
+returns c = rw (c .before .before .answer .given .1, c .wide .ensures .0)
 
 returns-2 : tie.Need-returns-2
 returns-2 c = rw (c .before .before .answer2 .given .1) (c .refused-by .ensures)
@@ -30,7 +27,6 @@ of-wait-spec =
     (tie.spec
     enum-known-answer
     wide-requires
-    told-requires
     enum-known-answer-2
     refused-by-requires
     returns

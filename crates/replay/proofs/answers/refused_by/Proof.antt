@@ -5,10 +5,10 @@ use Rattle.replay.proofs.answers.refused_by.Statement.{statement}
 use Rattle.replay.proofs.answers.refused_by.Tie as tie
 
 values-requires : tie.Need-values-requires
-values-requires c κs = search needs
+values-requires c κs = tt
 
 number-requires : tie.Need-number-requires
-number-requires c κs = search needs
+number-requires c κs = tt
 
 returns : tie.Need-returns
 unfolding refusedBy

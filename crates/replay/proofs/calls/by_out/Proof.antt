@@ -4,7 +4,7 @@ use Rattle.replay.proofs.calls.by_out.Statement.{statement}
 use Rattle.replay.proofs.calls.by_out.Tie as tie
 
 of-out-requires : tie.Need-of-out-requires
-of-out-requires c κs = search needs
+of-out-requires c κs = tt
 
 returns : tie.Need-returns
 returns c = rw (c .of-out .ensures)

@@ -4,7 +4,7 @@ use Rattle.replay.proofs.calls.by_send.Statement.{statement}
 use Rattle.replay.proofs.calls.by_send.Tie as tie
 
 of-bytes-requires : tie.Need-of-bytes-requires
-of-bytes-requires c κs = search needs
+of-bytes-requires c κs = tt
 
 returns : tie.Need-returns
 returns c = rw (c .of-bytes .ensures)

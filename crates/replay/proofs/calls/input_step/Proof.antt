@@ -8,7 +8,7 @@ input-requires : tie.Need-input-requires
 input-requires c κs = search needs
 
 by-input-requires : tie.Need-by-input-requires
-by-input-requires c κs = search needs
+by-input-requires c κs = tt
 
 same-length : tie.Need-same-length
 same-length c = c .before .before .before .before .before .before .before .before .rcv-records .given

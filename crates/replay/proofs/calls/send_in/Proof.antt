@@ -11,7 +11,7 @@ send-requires : tie.Need-send-requires
 send-requires c κs = search needs
 
 by-send-requires : tie.Need-by-send-requires
-by-send-requires c κs = search needs
+by-send-requires c κs = tt
 
 same-length : tie.Need-same-length
 same-length c = search needs

@@ -4,7 +4,7 @@ use Rattle.replay.proofs.looks.by_recv.Statement.{statement}
 use Rattle.replay.proofs.looks.by_recv.Tie as tie
 
 of-length-requires : tie.Need-of-length-requires
-of-length-requires c κs = search needs
+of-length-requires c κs = tt
 
 returns : tie.Need-returns
 returns c = rw (c .of-length .ensures)

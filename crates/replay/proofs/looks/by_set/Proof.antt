@@ -4,7 +4,7 @@ use Rattle.replay.proofs.looks.by_set.Statement.{statement}
 use Rattle.replay.proofs.looks.by_set.Tie as tie
 
 of-answer-requires : tie.Need-of-answer-requires
-of-answer-requires c κs = search needs
+of-answer-requires c κs = tt
 
 returns : tie.Need-returns
 returns c = rw (c .of-answer .ensures)

@@ -7,7 +7,7 @@ check-requires : tie.Need-check-requires
 check-requires c κs = search needs
 
 of-wait-requires : tie.Need-of-wait-requires
-of-wait-requires c κs = search needs
+of-wait-requires c κs = tt
 
 returns : tie.Need-returns
 returns c = rw (c .of-wait .ensures, c .before .check .ensures .is)

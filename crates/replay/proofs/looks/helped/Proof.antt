@@ -8,7 +8,7 @@ get-conv-requires : tie.Need-get-conv-requires
 get-conv-requires c κs = search needs
 
 of-number-requires : tie.Need-of-number-requires
-of-number-requires c κs = search needs
+of-number-requires c κs = tt
 
 put-requires : tie.Need-put-requires
 put-requires c κs = search needs
@@ -17,10 +17,10 @@ get-sn-requires : tie.Need-get-sn-requires
 get-sn-requires c κs = search needs
 
 of-number-requires-2 : tie.Need-of-number-requires-2
-of-number-requires-2 c κs = search needs
+of-number-requires-2 c κs = tt
 
 unknown-requires : tie.Need-unknown-requires
-unknown-requires c κs = search needs
+unknown-requires c κs = tt
 
 returns : tie.Need-returns
 returns c = helped-conv _ _ (c .before .get-conv .ensures .answer) (c .of-number .ensures) (c .before .before .match .keys1)

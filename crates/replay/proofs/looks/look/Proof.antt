@@ -1,5 +1,5 @@
 -- `replay::looks::look` meets its contract. Each call by its code. Assumes nothing.
-use Rattle.replay.proofs.Looking.{look-start, look-receive, look-check, look-windows, look-unlent}
+use Rattle.replay.proofs.Looking.{look-start, look-receive, look-check, look-unlent}
 use borrow.Author.Needs.{needs}
 use Rattle.replay.proofs.looks.look.Statement.{statement}
 use Rattle.replay.proofs.looks.look.Tie as tie
@@ -25,17 +25,11 @@ check-step-requires c κs = tt
 returns-3 : tie.Need-returns-3
 returns-3 c = look-check _ _ _ _ (c .before .before .before .before .before .if1 .left) (c .before .before .before .if2 .left) (c .check-step .ensures) (c .before .if3 .taken)
 
-windows-step-requires : tie.Need-windows-step-requires
-windows-step-requires c κs = tt
-
-returns-4 : tie.Need-returns-4
-returns-4 c = look-windows _ _ _ _ (c .before .before .before .before .before .before .before .if1 .left) (c .before .before .before .before .before .if2 .left) (c .windows-step .ensures) (c .before .before .before .if3 .left) (c .before .if4 .taken)
-
 unlent-requires : tie.Need-unlent-requires
 unlent-requires c κs = tt
 
-returns-5 : tie.Need-returns-5
-returns-5 c = look-unlent _ _ _ _ (c .before .before .before .before .before .before .before .if1 .left) (c .before .before .before .before .before .if2 .left) (c .unlent .ensures) (c .before .before .before .if3 .left) (c .before .if4 .left)
+returns-4 : tie.Need-returns-4
+returns-4 c = look-unlent _ _ _ _ (c .before .before .before .before .before .if1 .left) (c .before .before .before .if2 .left) (c .unlent .ensures) (c .before .if3 .left)
 
 pub look-spec : {M : Type 1} → statement M
 look-spec =
@@ -48,7 +42,5 @@ look-spec =
     returns-2
     check-step-requires
     returns-3
-    windows-step-requires
-    returns-4
     unlent-requires
-    returns-5)
+    returns-4)

@@ -7,7 +7,7 @@ peeksize-requires : tie.Need-peeksize-requires
 peeksize-requires c κs = search needs
 
 of-length-requires : tie.Need-of-length-requires
-of-length-requires c κs = search needs
+of-length-requires c κs = tt
 
 returns : tie.Need-returns
 returns c = rw (c .of-length .ensures, c .before .peeksize .ensures .is)

@@ -11,10 +11,10 @@ set-conv-requires : tie.Need-set-conv-requires
 set-conv-requires c κs = search needs
 
 sum-of-bytes-requires : tie.Need-sum-of-bytes-requires
-sum-of-bytes-requires c κs = search needs
+sum-of-bytes-requires c κs = tt
 
 of-put-requires : tie.Need-of-put-requires
-of-put-requires c κs = search needs
+of-put-requires c κs = tt
 
 same-length : tie.Need-same-length
 same-length c = search needs

@@ -8,10 +8,10 @@ recv-requires : tie.Need-recv-requires
 recv-requires c κs = search needs
 
 sum-of-bytes-requires : tie.Need-sum-of-bytes-requires
-sum-of-bytes-requires c κs = search needs
+sum-of-bytes-requires c κs = tt
 
 by-recv-requires : tie.Need-by-recv-requires
-by-recv-requires c κs = search needs
+by-recv-requires c κs = tt
 
 same-length : tie.Need-same-length
 same-length c = c .before .before .before .before .buf .given

@@ -8,7 +8,7 @@ use Rattle.replay.proofs.looks.recv_step.Statement.{statement}
 use Rattle.replay.proofs.looks.recv_step.Tie as tie
 
 unplayed-requires : tie.Need-unplayed-requires
-unplayed-requires c κs = search needs
+unplayed-requires c κs = tt
 
 returns : tie.Need-returns
 returns c = recv-long _ _ _ (c .unplayed .ensures) (c .before .if1 .taken)

@@ -12,16 +12,16 @@ set-interval-requires : tie.Need-set-interval-requires
 set-interval-requires c κs = search needs
 
 flag-requires : tie.Need-flag-requires
-flag-requires c κs = search needs
+flag-requires c κs = tt
 
 signed-requires : tie.Need-signed-requires
-signed-requires c κs = search needs
+signed-requires c κs = tt
 
 signed-requires-2 : tie.Need-signed-requires-2
-signed-requires-2 c κs = search needs
+signed-requires-2 c κs = tt
 
 flag-requires-2 : tie.Need-flag-requires-2
-flag-requires-2 c κs = search needs
+flag-requires-2 c κs = tt
 
 set-nodelay-requires : tie.Need-set-nodelay-requires
 set-nodelay-requires c κs = search needs

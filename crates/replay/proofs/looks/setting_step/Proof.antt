@@ -1,32 +1,29 @@
 -- `replay::looks::setting_step` meets its contract. Either side of the test. Assumes nothing.
 use Rattle.replay.proofs.Looking.{set-mtu, set-any}
-use mathlib.Core.Path.{sym, ap, _∙_}
-use Rattle.replay.proofs.Branches.{is, other, under, over}
-use Rattle.replay.specs.Looks.{settingOf}
 use borrow.Author.Needs.{needs}
 use Rattle.replay.proofs.looks.setting_step.Statement.{statement}
 use Rattle.replay.proofs.looks.setting_step.Tie as tie
 
 wide-requires : tie.Need-wide-requires
-wide-requires c κs = search needs
+wide-requires c κs = tt
 
 set-mtu-requires : tie.Need-set-mtu-requires
 set-mtu-requires c κs = search needs
 
 by-set-requires : tie.Need-by-set-requires
-by-set-requires c κs = search needs
+by-set-requires c κs = tt
 
 returns : tie.Need-returns
 returns c = set-mtu _ _ (c .before .before .wide .ensures .0) (c .before .set-mtu .ensures .outcome) (c .by-set .ensures) (c .before .before .before .if1 .taken)
 
 set-by-requires : tie.Need-set-by-requires
-set-by-requires c κs = search needs
+set-by-requires c κs = tt
 
-set-to-requires : tie.Need-set-to-requires
-set-to-requires c κs = search needs
+of-answer-requires : tie.Need-of-answer-requires
+of-answer-requires c κs = tt
 
 returns-2 : tie.Need-returns-2
-returns-2 c = set-any _ _ (c .before .set-by .ensures) (c .set-to .ensures) (c .before .before .if1 .left)
+returns-2 c = set-any _ _ (c .before .set-by .ensures) (c .of-answer .ensures) (c .before .before .if1 .left)
 
 pub setting-step-spec : {M : Type 1} → statement M
 setting-step-spec =
@@ -37,5 +34,5 @@ setting-step-spec =
     by-set-requires
     returns
     set-by-requires
-    set-to-requires
+    of-answer-requires
     returns-2)

@@ -4,7 +4,7 @@ use Rattle.replay.proofs.looks.unplayed.Statement.{statement}
 use Rattle.replay.proofs.looks.unplayed.Tie as tie
 
 unknown-requires : tie.Need-unknown-requires
-unknown-requires c κs = search needs
+unknown-requires c κs = tt
 
 returns : tie.Need-returns
 returns c = rw (c .unknown .ensures)
