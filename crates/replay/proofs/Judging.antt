@@ -12,14 +12,14 @@ use Rattle.block.proofs.Together.{goes as on, stops}
 use Rattle.ring.specs.Lists.{Lists}
 use Rattle.block.specs.declared.Kcp.{Kcp}
 use Rattle.history.specs.Calls.{Memory}
-use Rattle.replay.specs.declared.rows.Row.{Row}
-use Rattle.replay.specs.declared.answers.Answer.{Answer}
+use Rattle.recorded.specs.declared.rows.Row.{Row}
+use Rattle.recorded.specs.declared.answers.Answer.{Answer}
 use Rattle.replay.specs.declared.judge.Tally.{Tally}
-use Rattle.replay.specs.Sums.{sumOf, bit, low32}
-use Rattle.replay.specs.Rows.{rowAt, nextAt, handedAt, wholeAt, Whole}
-use Rattle.replay.specs.declared.looks.Made.{Made}
-use Rattle.replay.specs.Looks.{made}
-use Rattle.replay.specs.Calls.{Played, memoryOf, playOf}
+use Rattle.recorded.specs.Sums.{sumOf, bit, low32}
+use Rattle.recorded.specs.Rows.{rowAt, nextAt, handedAt, wholeAt, Whole}
+use Rattle.recorded.specs.declared.looks.Made.{Made}
+use Rattle.recorded.specs.Looks.{made}
+use Rattle.recorded.specs.Calls.{Played, memoryOf, playOf}
 use Rattle.replay.specs.Judge.{heldIn, numbersOf, same, agrees, agreed, counted, none, judgedFrom, judged}
 
 -- ---- the numbers

@@ -11,12 +11,12 @@ use Rattle.ring.specs.Counting.{count}
 use Rattle.block.specs.declared.Kcp.{Kcp}
 use Rattle.receive.specs.Fits.{receiveFits}
 use Rattle.history.specs.Calls.{Memory}
-use Rattle.replay.specs.declared.rows.Row.{Row}
-use Rattle.replay.specs.declared.answers.Answer.{Answer}
+use Rattle.recorded.specs.declared.rows.Row.{Row}
+use Rattle.recorded.specs.declared.answers.Answer.{Answer}
 use Rattle.replay.specs.declared.judge.Tally.{Tally}
-use Rattle.replay.specs.Sums.{sumOf, bit, low32}
-use Rattle.replay.specs.Rows.{rowAt, nextAt, handedAt, wholeAt}
-use Rattle.replay.specs.Calls.{Played, playOf}
+use Rattle.recorded.specs.Sums.{sumOf, bit, low32}
+use Rattle.recorded.specs.Rows.{rowAt, nextAt, handedAt, wholeAt}
+use Rattle.recorded.specs.Calls.{Played, playOf}
 
 -- ---- "every number of the block, under the Rust's names"
 

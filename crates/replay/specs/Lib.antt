@@ -1,6 +1,1 @@
-pub mod Sums
-pub mod Rows
-pub mod Answers
-pub mod Looks
-pub mod Calls
 pub mod Judge

@@ -1,10 +1,5 @@
 // The Rust's own answers, replayed: each call of a recording is made on the port, and its answer and the block's numbers after it are held to what the
 // Rust gave. Reads the recording from standard input; writes how many steps agreed, and the first that did not.
-mod sums; // messages and sums
-mod rows; // the steps of the recording
-mod answers; // answers as the numbers of a step
-mod looks; // the calls that change no lent memory
-mod calls; // the calls
 mod judge; // the comparison, and the run
 
 ghost use mathlib.Core.Path.{_≡_};

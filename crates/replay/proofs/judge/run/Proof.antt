@@ -3,14 +3,14 @@ use Prim.Native.Nat.{_-_}
 use native.Mathlib.Omega.{arith}
 use mathlib.Core.Path.{_≡_, refl, ap, _∙_}
 use lib.ListN.{length}
-use Rattle.replay.specs.declared.rows.Row.{Row}
-use Rattle.replay.specs.Calls.{memoryOf}
+use Rattle.recorded.specs.declared.rows.Row.{Row}
+use Rattle.recorded.specs.Calls.{memoryOf}
 use Rattle.replay.proofs.Judging.{Here, here-first, ends, goes, from-block}
 use Rattle.replay.proofs.judge.run.Statement.{statement}
 use Rattle.replay.proofs.judge.run.Tie as tie
 
 abbrev Inv-loop : tie.InvT-loop
-Inv-loop recording rcv-records₀ rcv-room₀ snd-records₀ snd-room₀ acks₀ waiting₀ made₀ tally₀ at₀ rcv-records rcv-room snd-records snd-room acks waiting made tally at = 
+Inv-loop recording rcv-records₀ rcv-room₀ snd-records₀ snd-room₀ acks₀ waiting₀ made₀ tally₀ at₀ rcv-records rcv-room snd-records snd-room acks waiting made tally at =
     Here recording (memoryOf (made₀ .block) rcv-records₀ rcv-room₀ snd-records₀ snd-room₀ acks₀ waiting₀) at (memoryOf (made .block) rcv-records rcv-room snd-records snd-room acks waiting) tally
     × (length rcv-records ≡ length rcv-records₀)
     × (length rcv-room ≡ length rcv-room₀)
@@ -65,10 +65,15 @@ loop-less : tie.Need-loop-less Inv-loop μ-loop
 loop-less c = let w = c .before .before .before .before .before .before .before .before .before .before .before .before .before .before .before .before .before .before .before .before .before .before .before .before .before .before .before .whole .ensures .1 (c .before .before .before .before .before .before .before .before .before .before .before .before .before .before .before .before .before .before .before .before .before .before .before .before .before .before .if1 .taken) in let n = w .numbers in let b = w .bytes in omega arith
 
 loop-again : tie.Need-loop-again Inv-loop μ-loop
-loop-again c = 
+loop-again c =
     let l = c .before .before .before .before .before .before .before .before .before .before .before .before .before .before .before .before .before .before .before .before .before .before .before .before .before .before .before .before .loop .inv in (
       goes _ (l .0) (c .before .before .before .before .before .before .before .before .before .before .before .before .before .before .before .before .before .before .before .before .before .before .before .before .before .before .before .whole .ensures .0) (c .before .before .before .before .before .before .before .before .before .before .before .before .before .before .before .before .before .before .before .before .before .before .before .before .before .before .if1 .taken) (c .before .before .before .before .before .before .before .before .before .before .before .before .before .before .before .before .before .before .before .before .before .before .before .before .before .before .before .whole .ensures .1 (c .before .before .before .before .before .before .before .before .before .before .before .before .before .before .before .before .before .before .before .before .before .before .before .before .before .before .if1 .taken)) (c .before .before .before .before .before .before .before .before .before .before .before .before .before .before .before .before .before .before .before .before .before .before .before .before .before .row-at .ensures) (c .before .before .before .before .before .before .before .before .before .before .before .before .before .before .before .before .before .before .before .before .before .before .before .before .wide .ensures .0) (c .before .before .before .before .before .before .before .before .before .before .before .before .before .before .before .before .make .ensures) (c .before .agrees .ensures) (c .with .ensures),
-      c .before .before .before .before .before .before .before .before .before .before .before .before .before .before .before .rcv-records .given ∙ l .1, c .before .before .before .before .before .before .before .before .before .before .before .before .before .rcv-room .given ∙ l .2, c .before .before .before .before .before .before .before .before .before .before .before .snd-records .given ∙ l .3, c .before .before .before .before .before .before .before .before .before .snd-room .given ∙ l .4, c .before .before .before .before .before .before .before .acks .given ∙ l .5, c .before .before .before .before .before .waiting .given ∙ l .6,
+      c .before .before .before .before .before .before .before .before .before .before .before .before .before .before .before .rcv-records .given ∙ l .1,
+      c .before .before .before .before .before .before .before .before .before .before .before .before .before .rcv-room .given ∙ l .2,
+      c .before .before .before .before .before .before .before .before .before .before .before .snd-records .given ∙ l .3,
+      c .before .before .before .before .before .before .before .before .before .snd-room .given ∙ l .4,
+      c .before .before .before .before .before .before .before .acks .given ∙ l .5,
+      c .before .before .before .before .before .waiting .given ∙ l .6,
     )
 
 same-length : tie.Need-same-length Inv-loop μ-loop
