@@ -1,4 +1,1 @@
-pub mod Payload
-pub mod Table
-pub mod Calls
-pub mod Agree
+pub mod Judge

@@ -1,224 +1,247 @@
-//! oracle/replay-sample: writes a sample of the Rust's own answers on the receive side as a Rattle constant, for a program that
-//! makes the same calls on the port and holds its answers to them. The script of that name has the usage.
+//! oracle/replay-sample: writes a recording of the Rust's own answers, for a program that makes the same calls on the port and holds its
+//! answers to them. The script of that name has the usage.
 //!
-//! `sample SEED COUNT FILE` makes COUNT calls on a plain block made anew with conv 1, the same for the same SEED, and writes FILE:
+//! `sample SEED COUNT FILE` makes COUNT calls of the generator's sequences, the same for the same SEED, and writes FILE, a step for each.
+//! A step is eleven numbers of 32 bits, little-endian, and the bytes that it is handed:
 //!
-//!     pub const STEPS: [u32; 15 * COUNT] = [ .. ];
-//!
-//! Each step is WIDTH = 15 numbers:
-//!
-//!      0       code: 1 push, 2 recv, 3 peeksize, 4 move_buf, 5 set_wndsize
-//!      1 .. 5  the arguments, 0 where there are fewer:
-//!                push         sn, frg, ts, len, byte: the payload is len bytes, the one at index i being (byte + i) mod 256
-//!                recv         the length of the buffer
-//!                set_wndsize  sndwnd, rcvwnd
+//!      0       code, below
+//!      1 .. 4  the arguments, 0 where there are fewer
+//!      5       how many bytes follow the eleven numbers
 //!      6       the refusal's number, 0 where the call is not refused
-//!      7       the length that recv and peeksize answer; 0 for the others and beside a refusal
-//!      8       of recv, the sum over the bytes handed out of byte * (index + 1), modulo 2^32; else 0
-//!      9 .. 14 the block afterwards: rcv_nxt, rcv_wnd, the lengths of queue, held segments and ack list, the probe bits
+//!      7, 8    the refusal's values; of a call that is not refused the number that it answers; of flush_ack, flush and update how many
+//!              datagrams went out, and the sum of their lengths' list
+//!      9       the sum of what comes out: the bytes handed out by recv, the datagrams end to end, the bytes that the header helper left,
+//!              what the getters answer
+//!     10       the sum of the block's numbers afterwards, as `numbers` lists them
 //!
-//! push is the push part of input by itself, without una and wnd. Nothing empties the ack list, so that it ends with at most COUNT
-//! pairs; no window is over 256. With at least 512 receive slots and COUNT pairs lent, every step is on document 01's domain of
-//! equality: no window is refused, no push skipped, and no frg is 255.
+//! A sum is that of number * (index + 1), modulo 2^32.
+//!
+//!      0 input: the datagram is the bytes
+//!      1 send: len, byte; the byte at index i is (byte + 7 i) mod 256
+//!      2 flush_ack       3 flush       4 update: current; from here on no call changes the memory that a host lends
+//!      5 a block made anew: conv, stream, the numbers that receiving and sending start from
+//!      6 recv: the buffer's length       7 peeksize       8 move_buf       9 set_wndsize: snd, rcv
+//!     10 check: current     11 set_mtu     12 set_interval     13 set_nodelay: nodelay, interval, resend, nc
+//!     14 set_rx_minrto     15 set_fast_resend     16 set_maximum_resend_times     17 input_conv     18 set_conv
+//!     19 every getter, and the sum of what they answer: conv, waiting_conv, mtu, mss, snd_wnd, rcv_wnd, rmt_wnd, wait_snd, header_len,
+//!        is_stream, is_dead_link, a flag as 0 or 1
+//!     20 get_conv, 21 set_conv: conv, 22 get_sn: of the bytes, at most `HELPED`; the block is not asked
+//!
+//! Every step is on document 01's domain of equality for a block with 1,024 slots on either side and 4,096 acks, with at most `OUT` bytes
+//! and `LENGTHS` datagrams out, a buffer of at most `BUFFER` bytes and a message of at most `MESSAGE`. A sequence ends where a call would
+//! set a number of the state, or would put out more.
 
-use driver::random::Random;
-use driver::rust_side::Sink;
-use kcp_judge::{inside, Error, Kcp};
-use state::State;
-use std::fmt::Write as _;
+use driver::call::{Call, Getter};
+use driver::generator::Generator;
+use driver::side::{Answer, Outcome, Side};
+use state::{State, Touched};
 use std::{fs, process};
 
-const WIDTH: usize = 15;
-const WIDEST: u32 = 256;
+driver::rust_side!(Judge, kcp_judge);
 
-#[derive(Clone, Copy)]
-enum Step {
-    Push { sn: u32, frg: u8, ts: u32, len: usize, byte: u8 },
-    Recv(usize),
-    Peeksize,
-    MoveBuf,
-    SetWndsize(u16, u16),
-}
+const OUT: usize = 16384;
+const LENGTHS: usize = 1024;
+const BUFFER: usize = 8192;
+const MESSAGE: usize = 4096;
+const HELPED: usize = 64;
+const CODES: usize = 23;
+
+const GETTERS: [Getter; 11] = [
+    Getter::Conv,
+    Getter::WaitingConv,
+    Getter::Mtu,
+    Getter::Mss,
+    Getter::SndWnd,
+    Getter::RcvWnd,
+    Getter::RmtWnd,
+    Getter::WaitSnd,
+    Getter::HeaderLen,
+    Getter::IsStream,
+    Getter::IsDeadLink,
+];
 
 fn stop(line: &str) -> ! {
     eprintln!("replay-sample: {}", line);
     process::exit(2)
 }
 
-/// The refusal's number and the length.
-fn answer(result: Result<usize, Error>) -> (u32, u32) {
-    match result {
-        Ok(n) => (0, n as u32),
-        Err(Error::RecvQueueEmpty) => (5, 0),
-        Err(Error::ExpectingFragment) => (6, 0),
-        Err(Error::UserBufTooSmall) => (7, 0),
-        Err(other) => stop(&format!("the Rust answered {}", other)),
-    }
+fn sum(numbers: impl Iterator<Item = u32>) -> u32 {
+    numbers.zip(1u32..).fold(0, |sum: u32, (n, i)| sum.wrapping_add(i.wrapping_mul(n)))
 }
 
-fn checksum(bytes: &[u8]) -> u32 {
-    bytes.iter().zip(1u32..).fold(0, |sum: u32, (byte, i)| sum.wrapping_add(i.wrapping_mul(*byte as u32)))
+/// Every number of the block, under the Rust's names.
+fn numbers(s: &State) -> [u32; 39] {
+    [
+        s.conv,
+        s.mtu as u32,
+        s.mss as u32,
+        (s.state != 0) as u32,
+        s.snd_una,
+        s.snd_nxt,
+        s.rcv_nxt,
+        s.ssthresh as u32,
+        s.rx_rttval,
+        s.rx_srtt,
+        s.rx_rto,
+        s.rx_minrto,
+        s.snd_wnd as u32,
+        s.rcv_wnd as u32,
+        s.rmt_wnd as u32,
+        s.cwnd as u32,
+        s.probe,
+        s.current,
+        s.interval,
+        s.ts_flush,
+        s.xmit,
+        s.nodelay as u32,
+        s.updated as u32,
+        s.ts_probe,
+        s.probe_wait,
+        s.dead_link,
+        s.incr as u32,
+        (s.incr >> 32) as u32,
+        s.fastresend,
+        s.fastlimit,
+        s.nocwnd as u32,
+        s.stream as u32,
+        s.input_conv as u32,
+        s.snd_queue.len() as u32,
+        s.rcv_queue.len() as u32,
+        s.snd_buf.len() as u32,
+        s.rcv_buf.len() as u32,
+        s.acklist.len() as u32,
+        s.buf.len() as u32,
+    ]
 }
 
-/// Makes the step, and puts its numbers down.
-fn make(k: &mut Kcp<Sink>, s: &mut State, step: Step, out: &mut Vec<u32>) {
-    let (mut words, mut sum) = ([0; 6], 0);
-    let (refusal, length) = match step {
-        Step::Push { sn, frg, ts, len, byte } => {
-            words = [1, sn, frg as u32, ts, len as u32, byte as u32];
-            let payload: Vec<u8> = (0..len).map(|i| byte.wrapping_add(i as u8)).collect();
-            inside::push_of(k, sn, frg, ts, &payload);
-            (0, 0)
-        }
-        Step::Recv(n) => {
-            words[..2].copy_from_slice(&[2, n as u32]);
-            let mut buffer = vec![0; n];
-            let (refusal, length) = answer(k.recv(&mut buffer));
-            sum = checksum(&buffer[..length as usize]);
-            (refusal, length)
-        }
-        Step::Peeksize => {
-            words[0] = 3;
-            answer(k.peeksize())
-        }
-        Step::MoveBuf => {
-            words[0] = 4;
-            k.move_buf();
-            (0, 0)
-        }
-        Step::SetWndsize(snd, rcv) => {
-            words[..3].copy_from_slice(&[5, snd as u32, rcv as u32]);
-            k.set_wndsize(snd, rcv);
-            (0, 0)
+/// What every getter answers, in the order of `GETTERS`.
+fn gotten(judge: &mut Judge) -> Vec<u32> {
+    let mut out = Outcome::new();
+    let mut get = |getter: &Getter| {
+        judge.make(&Call::Get(*getter), &[], &mut out);
+        match out.answer {
+            Answer::Number(n) => n as u32,
+            Answer::Flag(flag) => flag as u32,
+            _ => stop("a getter answered nothing"),
         }
     };
-    inside::read(k, s);
-    out.extend_from_slice(&words);
-    out.extend_from_slice(&[refusal, length, sum, s.rcv_nxt, s.rcv_wnd as u32]);
-    out.extend([s.rcv_queue.len(), s.rcv_buf.len(), s.acklist.len()].iter().map(|n| *n as u32));
-    out.push(s.probe);
+    GETTERS.iter().map(|getter| get(getter)).collect()
 }
 
-// ---- which steps
-
-fn push(r: &mut Random, s: &State, sn: u32) -> Step {
-    // a large one would hold a short queue up for good
-    let large = if s.rcv_queue.len() < 60 { 0 } else { 100 };
-    let frg = r.weighted(&[(0, 30), (1, 6), (2, 4), (3, 2), (large, 1)]);
-    let len = r.weighted(&[(0, 2), (1, 6), (5, 6), (20, 4), (300, 1), (1475, 1), (1476, 1)]);
-    Step::Push { sn, frg, ts: r.word(), len, byte: r.word() as u8 }
+/// The code and the arguments; none where the recording has no such call.
+fn words(call: &Call) -> Option<[u32; 5]> {
+    Some(match call {
+        Call::Start { conv, stream, rcv, snd, .. } => [5, *conv, *stream as u32, *rcv, *snd],
+        Call::Input(_) => [0; 5],
+        Call::Recv(n) if *n <= BUFFER => [6, *n as u32, 0, 0, 0],
+        Call::Peeksize => [7, 0, 0, 0, 0],
+        Call::MoveBuf => [8, 0, 0, 0, 0],
+        Call::Send(fill) if fill.len <= MESSAGE => [1, fill.len as u32, fill.seed as u32, 0, 0],
+        Call::FlushAck => [2, 0, 0, 0, 0],
+        Call::Flush => [3, 0, 0, 0, 0],
+        Call::Update(current) => [4, *current, 0, 0, 0],
+        Call::Check(current) => [10, *current, 0, 0, 0],
+        Call::SetWndsize(snd, rcv) => [9, *snd as u32, *rcv as u32, 0, 0],
+        Call::SetMtu(mtu) => [11, *mtu as u32, 0, 0, 0],
+        Call::SetInterval(n) => [12, *n, 0, 0, 0],
+        Call::SetNodelay(nodelay, interval, resend, nc) => [13, *nodelay as u32, *interval as u32, *resend as u32, *nc as u32],
+        Call::SetRxMinrto(n) => [14, *n, 0, 0, 0],
+        Call::SetFastResend(n) => [15, *n, 0, 0, 0],
+        Call::SetMaximumResendTimes(n) => [16, *n, 0, 0, 0],
+        Call::InputConv => [17, 0, 0, 0, 0],
+        Call::SetConv(conv) => [18, *conv, 0, 0, 0],
+        Call::Get(_) => [19, 0, 0, 0, 0],
+        Call::GetConv(b) if b.len() <= HELPED => [20, 0, 0, 0, 0],
+        Call::PutConv(b, conv) if b.len() <= HELPED => [21, *conv, 0, 0, 0],
+        Call::GetSn(b) if b.len() <= HELPED => [22, 0, 0, 0, 0],
+        _ => return None,
+    })
 }
 
-/// A number to push: the awaited one and those behind it, the window's far edge, held ones, old ones, and those half of all away.
-fn number(r: &mut Random, s: &State) -> u32 {
-    let (next, w) = (s.rcv_nxt, s.rcv_wnd as u32);
-    let held = if s.rcv_buf.is_empty() { next } else { s.rcv_buf[r.below(s.rcv_buf.len())].sn };
-    match r.below(20) {
-        0..=6 => next,
-        7..=10 => next.wrapping_add(r.below(6) as u32),
-        11 => next.wrapping_add(r.below(w as usize) as u32),
-        12 | 13 => r.near(next.wrapping_add(w)),
-        14 | 15 => held,
-        16 | 17 => next.wrapping_sub(1 + r.below(6) as u32),
-        18 => r.near(next.wrapping_add(1 << 31)),
-        _ => r.near(next.wrapping_add((1 << 31) + w)),
+fn handed<'a>(call: &'a Call, bytes: &'a [u8]) -> &'a [u8] {
+    match call {
+        Call::Input(_) => bytes,
+        Call::GetConv(bytes) | Call::PutConv(bytes, _) | Call::GetSn(bytes) => bytes,
+        _ => &[],
     }
 }
 
-/// A buffer about as long as the message at the front.
-fn buffer(r: &mut Random, s: &State) -> usize {
-    let mut message = 0;
-    for x in &s.rcv_queue {
-        message += x.data.len();
-        if x.frg == 0 {
-            break;
+/// The refusal's number, two values, and the sum of the bytes that come out.
+fn answer(call: &Call, out: &Outcome) -> [u32; 4] {
+    let bytes = sum(out.datagrams.bytes.iter().map(|b| *b as u32));
+    match &out.answer {
+        Answer::Refused { number, values } => {
+            let value = |i: usize| values.get(i).map_or(0, |n| *n as u32);
+            [*number as u32, value(0), value(1), kept(call, out)]
         }
+        Answer::Number(n) => [0, *n as u32, 0, kept(call, out)],
+        Answer::Nothing => match call {
+            Call::PutConv(..) => [0, 0, 0, kept(call, out)],
+            _ => [0, out.datagrams.lengths.len() as u32, sum(out.datagrams.lengths.iter().map(|n| *n as u32)), bytes],
+        },
+        other => stop(&format!("the Rust answered {:?}", other)),
     }
-    let less = message.saturating_sub(1);
-    r.weighted(&[(message, 6), (less, 2), (message + 1, 2), (message + 100, 1), (0, 1)])
 }
 
-fn window(r: &mut Random, s: &State) -> Step {
-    let queued = s.rcv_queue.len() as u32;
-    let rcv = r.pick(&[0, 1, 127, 128, 129, queued, queued + 1, 200, WIDEST]).min(WIDEST);
-    Step::SetWndsize(r.pick(&[0, 1, 32, 65535]), rcv as u16)
+/// The sum of what recv handed out, or of the bytes that a helper left.
+fn kept(call: &Call, out: &Outcome) -> u32 {
+    let length = match (call, &out.answer) {
+        (Call::Recv(_), Answer::Number(n)) => *n as usize,
+        (Call::PutConv(..), _) => out.buffer.len(),
+        _ => 0,
+    };
+    sum(out.buffer[..length].iter().map(|b| *b as u32))
 }
 
-fn mixed(r: &mut Random, s: &State) -> Step {
-    match r.below(20) {
-        0..=8 => {
-            let sn = number(r, s);
-            push(r, s, sn)
+struct Recording {
+    bytes: Vec<u8>,
+    steps: usize,
+    by_code: [usize; CODES],
+    refused: [usize; 17],
+}
+
+impl Recording {
+    fn put(&mut self, words: [u32; 5], bytes: &[u8], answer: [u32; 4], after: &State) {
+        self.steps += 1;
+        self.by_code[words[0] as usize] += 1;
+        self.refused[answer[0] as usize] += 1;
+        let (length, state) = ([bytes.len() as u32], [sum(numbers(after).iter().copied())]);
+        for word in words.iter().chain(&length).chain(&answer).chain(&state) {
+            self.bytes.extend_from_slice(&word.to_le_bytes());
         }
-        9..=14 => Step::Recv(buffer(r, s)),
-        15 | 16 => Step::Peeksize,
-        17 => Step::MoveBuf,
-        _ => window(r, s),
+        self.bytes.extend_from_slice(bytes);
     }
 }
 
-/// The step at this place: first of all kinds; then the queue is filled over the window, which is raised over the segments held
-/// behind it, and lowered again under them; then of all kinds, reading mostly.
-fn choose(r: &mut Random, s: &State, at: usize, count: usize) -> Step {
-    let (queued, held) = (s.rcv_queue.len(), s.rcv_buf.len());
-    let (fill, deep, late) = (count / 6, count * 7 / 10, count * 9 / 10);
-    let behind = s.rcv_buf.last().map_or(s.rcv_nxt, |x| x.sn.wrapping_add(1));
-    if at < fill {
-        return mixed(r, s);
-    }
-    if at == fill {
-        return Step::SetWndsize(0, 128);
-    }
-    if at < deep {
-        return match r.below(40) {
-            0 => Step::Recv(buffer(r, s)),
-            1 => push(r, s, s.rcv_nxt.wrapping_add(1)),
-            _ if queued < s.rcv_wnd as usize => push(r, s, s.rcv_nxt),
-            _ => push(r, s, behind),
+/// Records one sequence, as long as it can be replayed and `most` steps are not reached. It begins with a plain block of conversation 0, which the judge has
+/// before any call: a sequence of header helpers makes none.
+fn record(seed: u64, sequence: u64, most: usize, recording: &mut Recording) {
+    let (mut judge, mut now, mut out) = (Judge::default(), State::default(), Outcome::new());
+    let mut fresh = State::default();
+    judge.read_numbers(&mut fresh, Touched::ALL);
+    recording.put([5, 0, 0, 0, 0], &[], [0; 4], &fresh);
+    let mut generator = Generator::new(seed, sequence, None, &[]);
+    while recording.steps < most {
+        let call = match generator.next(&now) {
+            Some(Call::Tune(..)) | None => return,
+            Some(call) => call,
         };
-    }
-    if at < late {
-        let old = s.rcv_nxt.wrapping_sub(1);
-        let repeat = if held > 0 { behind.wrapping_sub(1) } else { s.rcv_nxt };
-        return match r.below(10) {
-            0 => window(r, s),
-            1 => push(r, s, old),
-            2 => push(r, s, repeat),
-            3 => push(r, s, behind),
-            4 => Step::Peeksize,
-            _ => Step::Recv(buffer(r, s)),
+        let words = match words(&call) {
+            Some(words) => words,
+            None => continue,
         };
+        judge.make(&call, &generator.bytes, &mut out);
+        judge.read_numbers(&mut now, Touched::ALL);
+        if out.datagrams.bytes.len() > OUT || out.datagrams.lengths.len() > LENGTHS {
+            return;
+        }
+        let answer = match &call {
+            Call::Get(_) => [0, 0, 0, sum(gotten(&mut judge).into_iter())],
+            _ => answer(&call, &out),
+        };
+        recording.put(words, handed(&call, &generator.bytes), answer, &now);
+        generator.saw(&out);
     }
-    mixed(r, s)
-}
-
-/// What the sample has of the cases that matter, to choose a seed by.
-fn covered(steps: &[u32]) -> String {
-    let count = |column: usize, value: u32| steps.chunks(WIDTH).filter(|step| step[column] == value).count();
-    let most = |column: usize| steps.chunks(WIDTH).map(|step| step[column]).max().unwrap_or(0);
-    format!(
-        "refused by 5, 6, 7: {}, {}, {}; tell bit {}; longest queue {}, held {}, ack list {}",
-        count(6, 5),
-        count(6, 6),
-        count(6, 7),
-        if most(14) > 0 { "set" } else { "not set" },
-        most(11),
-        most(12),
-        most(13)
-    )
-}
-
-fn text(seed: u64, count: usize, steps: &[u32]) -> String {
-    let mut text = format!(
-        "// What the Rust answers to {} calls on the receive side, of seed {}: oracle/replay-sample wrote it, and its source has the format.\n",
-        count, seed
-    );
-    let _ = writeln!(text, "pub const STEPS: [u32; {}] = [", steps.len());
-    for n in steps {
-        let _ = writeln!(text, "    {},", n);
-    }
-    text.push_str("];\n");
-    text
 }
 
 fn main() {
@@ -228,23 +251,18 @@ fn main() {
     }
     let seed: u64 = words[0].parse().unwrap_or_else(|_| stop("SEED is to be a number"));
     let count: usize = words[1].parse().unwrap_or_else(|_| stop("COUNT is to be a number"));
-    if count == 0 || count > 4096 {
-        stop("COUNT is to be from 1 to 4096");
+    let mut recording = Recording { bytes: Vec::new(), steps: 0, by_code: [0; CODES], refused: [0; 17] };
+    let mut sequence = 0;
+    while recording.steps < count {
+        record(seed, sequence, count, &mut recording);
+        sequence += 1;
     }
-    let mut r = Random::new(seed);
-    let mut k = Kcp::new(1, Sink::default());
-    let mut s = State::default();
-    inside::read(&k, &mut s);
-    let mut steps = Vec::new();
-    for at in 0..count {
-        let step = choose(&mut r, &s, at, count);
-        make(&mut k, &mut s, step, &mut steps);
-    }
-    assert_eq!(steps.len(), WIDTH * count);
     // whole or not at all
     let new = format!("{}.new", words[2]);
-    fs::write(&new, text(seed, count, &steps))
+    fs::write(&new, &recording.bytes)
         .and_then(|_| fs::rename(&new, &words[2]))
         .unwrap_or_else(|e| stop(&format!("cannot write {}: {}", words[2], e)));
-    println!("{} steps of {} numbers written to {}: {}", count, WIDTH, words[2], covered(&steps));
+    println!("{} steps of {} sequences, {} bytes, written to {}", recording.steps, sequence, recording.bytes.len(), words[2]);
+    println!("by code, from 0 on: {:?}", recording.by_code);
+    println!("by the refusal's number, from none on: {:?}", &recording.refused[..=10]);
 }

@@ -1,0 +1,5 @@
+pub mod Sums
+pub mod Rows
+pub mod Answers
+pub mod Looks
+pub mod Calls
