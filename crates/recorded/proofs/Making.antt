@@ -1,22 +1,20 @@
 -- The calls that change lent memory, and the choice among all: each step of the code against its definition. Assumes nothing.
 use Prim.Native.Nat.{ℕ, _<_, _≤_, _%_}
-use mathlib.Core.Path.{_≡_, refl, sym, ap, _∙_}
+use mathlib.Core.Path.{_≡_, sym, ap, _∙_}
 use mathlib.Core.List.{List}
-use lib.ListN.{length}
 use Rattle.ring.specs.Lists.{Lists}
 use Rattle.snd_ring.specs.Store.{storeOf}
 use Rattle.block.specs.declared.Kcp.{Kcp}
 use Rattle.block.specs.declared.refusal.Answer.{Answer as Told}
 use Rattle.block.specs.declared.refusal.Bytes.{Bytes}
 use Rattle.packing.specs.FlushAck.{Writing, writing}
-use Rattle.output.specs.Memory.{Out, FlushOut}
+use Rattle.output.specs.Memory.{FlushOut}
 use Rattle.kcp_send.specs.Send.{sendOf}
 use Rattle.kcp_input.specs.Input.{inputOf}
 use Rattle.kcp_flush.specs.Calls.{flushAckOf, flushOf, updateOf}
 use Rattle.history.specs.Calls.{Memory}
 use Rattle.history.proofs.Stores.{lists-back}
 use Rattle.recorded.specs.declared.rows.Row.{Row}
-use Rattle.recorded.specs.declared.answers.Answer.{Answer}
 use Rattle.recorded.specs.declared.looks.Made.{Made}
 use Rattle.recorded.specs.Sums.{sumOf, rising, zeros}
 use Rattle.recorded.specs.Answers.{unknown, ofBytes, ofOut}

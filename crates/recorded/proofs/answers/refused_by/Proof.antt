@@ -1,6 +1,5 @@
 -- `recorded::answers::refused_by` meets its contract. The refusal's number and its values. Assumes nothing.
 use Rattle.recorded.specs.Answers.{refusedBy}
-use borrow.Author.Needs.{needs}
 use Rattle.recorded.proofs.answers.refused_by.Statement.{statement}
 use Rattle.recorded.proofs.answers.refused_by.Tie as tie
 

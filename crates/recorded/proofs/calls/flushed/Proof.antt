@@ -1,6 +1,5 @@
 -- `recorded::calls::flushed` meets its contract. Either by its code. Assumes nothing.
 use Rattle.recorded.proofs.Making.{flushes, updates}
-use borrow.Author.Needs.{needs}
 use Rattle.recorded.proofs.calls.flushed.Statement.{statement}
 use Rattle.recorded.proofs.calls.flushed.Tie as tie
 

@@ -2,7 +2,6 @@
 use mathlib.Core.Path.{refl}
 use Rattle.recorded.specs.Calls.{memoryOf}
 use Rattle.recorded.proofs.Making.{play-input, play-send, play-acks, play-flush, play-look}
-use borrow.Author.Needs.{needs}
 use Rattle.recorded.proofs.calls.make.Statement.{statement}
 use Rattle.recorded.proofs.calls.make.Tie as tie
 

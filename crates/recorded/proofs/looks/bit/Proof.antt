@@ -1,5 +1,5 @@
 -- `recorded::looks::bit` meets its contract. Either flag. Assumes nothing.
-use mathlib.Core.Path.{sym, ap, _∙_}
+use mathlib.Core.Path.{sym}
 use Rattle.serial.specs.Branch.{pick-true, pick-false}
 use Rattle.recorded.proofs.looks.bit.Statement.{statement}
 use Rattle.recorded.proofs.looks.bit.Tie as tie

@@ -1,5 +1,4 @@
 -- `recorded::looks::by_recv` meets its contract. What the call ensures. Assumes nothing.
-use borrow.Author.Needs.{needs}
 use Rattle.recorded.proofs.looks.by_recv.Statement.{statement}
 use Rattle.recorded.proofs.looks.by_recv.Tie as tie
 

@@ -1,5 +1,4 @@
 -- `recorded::looks::by_set` meets its contract. What the call ensures. Assumes nothing.
-use borrow.Author.Needs.{needs}
 use Rattle.recorded.proofs.looks.by_set.Statement.{statement}
 use Rattle.recorded.proofs.looks.by_set.Tie as tie
 

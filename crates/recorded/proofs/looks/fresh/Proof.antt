@@ -1,9 +1,5 @@
 -- `recorded::looks::fresh` meets its contract. Plain or stream, by the test. Assumes nothing.
 use Rattle.recorded.proofs.Looking.{fresh-plain, fresh-stream}
-use mathlib.Core.Path.{sym, ap, _∙_}
-use Rattle.recorded.proofs.Branches.{is, other, under, over}
-use Rattle.block.specs.declared.Kcp.{Kcp}
-use Rattle.block.specs.Fresh.{lentSizes, madeOf}
 use borrow.Author.Needs.{needs}
 use Rattle.recorded.proofs.looks.fresh.Statement.{statement}
 use Rattle.recorded.proofs.looks.fresh.Tie as tie

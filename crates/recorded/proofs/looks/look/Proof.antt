@@ -1,6 +1,5 @@
 -- `recorded::looks::look` meets its contract. Each call by its code. Assumes nothing.
 use Rattle.recorded.proofs.Looking.{look-start, look-receive, look-check, look-unlent}
-use borrow.Author.Needs.{needs}
 use Rattle.recorded.proofs.looks.look.Statement.{statement}
 use Rattle.recorded.proofs.looks.look.Tie as tie
 

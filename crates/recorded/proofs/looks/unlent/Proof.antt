@@ -1,6 +1,5 @@
 -- `recorded::looks::unlent` meets its contract. Each call by its code. Assumes nothing.
 use Rattle.recorded.proofs.Looking.{unlent-set, unlent-get, unlent-help}
-use borrow.Author.Needs.{needs}
 use Rattle.recorded.proofs.looks.unlent.Statement.{statement}
 use Rattle.recorded.proofs.looks.unlent.Tie as tie
 

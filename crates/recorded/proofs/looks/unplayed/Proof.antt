@@ -1,5 +1,4 @@
 -- `recorded::looks::unplayed` meets its contract. What the call ensures. Assumes nothing.
-use borrow.Author.Needs.{needs}
 use Rattle.recorded.proofs.looks.unplayed.Statement.{statement}
 use Rattle.recorded.proofs.looks.unplayed.Tie as tie
 

@@ -1,7 +1,7 @@
 -- `recorded::rows::word` meets its contract. Its four bytes stand in a row at `at`. Assumes nothing.
 use Prim.Native.Nat.{_+_}
 use native.Mathlib.Omega.{arith}
-use mathlib.Core.Path.{sym, ap, _∙_}
+use mathlib.Core.Path.{sym, _∙_}
 use Rattle.wire.proofs.LittleEndian.{leAt-suc}
 use borrow.Author.Needs.{needs}
 use Rattle.recorded.proofs.rows.word.Statement.{statement}

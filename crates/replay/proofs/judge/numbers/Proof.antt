@@ -1,7 +1,6 @@
 -- `replay::judge::numbers` meets its contract. What the calls ensure. Assumes nothing.
 use mathlib.Core.Path.{refl}
 use Rattle.replay.proofs.Judging.{numbers-are}
-use borrow.Author.Needs.{needs}
 use Rattle.replay.proofs.judge.numbers.Statement.{statement}
 use Rattle.replay.proofs.judge.numbers.Tie as tie
 

@@ -1,6 +1,5 @@
 -- `replay::judge::same` meets its contract. The tests one by one. Assumes nothing.
 use Rattle.replay.proofs.Judging.{differs, differs-first, differs-second, differs-sum, same-numbers}
-use borrow.Author.Needs.{needs}
 use Rattle.replay.proofs.judge.same.Statement.{statement}
 use Rattle.replay.proofs.judge.same.Tie as tie
 

@@ -1,6 +1,5 @@
 -- `replay::judge::Tally::with` meets its contract. Either verdict, and the first that did not agree. Assumes nothing.
-use mathlib.Core.Path.{sym, ap, _∙_}
-use Rattle.recorded.proofs.Branches.{is, other, under, over}
+use Rattle.recorded.proofs.Branches.{other}
 use Rattle.serial.specs.Branch.{pick}
 use Rattle.replay.specs.Judge.{counted}
 use borrow.Author.Needs.{needs}
