@@ -54,7 +54,7 @@ pub fn probe_put(
 {
     if on {
         let at = p.start + p.used;
-        bytes::copy(&head, &mut out[at..]);
+        ring::copy(&head, &mut out[at..]);
         return p.cut(mtu, wire::OVERHEAD, lengths);
     }
     p

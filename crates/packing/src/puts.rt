@@ -11,7 +11,7 @@ pub fn put_header(header: Header, dst: &mut [u8], at: usize)
     ensures { dst.new ≡ put dst.old at (header_bytes header) }
 {
     let b = header.bytes();
-    bytes::copy(&b, &mut dst[at..]);
+    ring::copy(&b, &mut dst[at..]);
 }
 
 // The first `held` of the waiting bytes, to the start of dst. By way of an array, so that the compiler makes one memmove of it.
@@ -22,6 +22,6 @@ pub fn put_waiting(waiting: &[u8], held: usize, dst: &mut [u8])
     ensures { dst.new ≡ put dst.old 0 (take held waiting.now) }
 {
     let mut t = [0u8; 1500];
-    bytes::copy(&waiting[0..held], &mut t);
-    bytes::copy(&t[0..held], dst);
+    ring::copy(&waiting[0..held], &mut t);
+    ring::copy(&t[0..held], dst);
 }

@@ -283,7 +283,7 @@ fn put_in(buf: &mut [u8], handed: &[u8], conv: u32) -> Answer
     requires { length buf.old ≡ length handed.now }
     ensures { result ≡ of_put (put_of handed.now) (sum_of (with_conv handed.now conv)) }
 {
-    bytes::copy(handed, buf);
+    ring::copy(handed, buf);
     let put = wire::set_conv(buf, conv);
     of_put(put, sum_of_bytes(buf))
 }

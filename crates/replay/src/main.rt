@@ -1,5 +1,6 @@
 // The Rust's own answers, replayed: each call of a recording is made on the port, and its answer and the block's numbers after it are held to what the
 // Rust gave. Reads the recording from standard input; writes how many steps agreed, and the first that did not.
+#![tactic(auto)]
 mod judge; // the comparison, and the run
 
 ghost use Rattle.std.specs.Prelude.{◌≡◌, length};

@@ -1,6 +1,7 @@
 // A ring of slots in lent memory: the place of an index, records and payloads by their place, and the count that a test makes of its words.
-ghost use Rattle.std.specs.Prelude.{◌≡◌, [], ◌∷◌, ◌+◌, ◌-◌, ◌*◌, ◌<◌, ◌≤◌};
-ghost use lib.ListN.{length};
+#![tactic(auto)]
+ghost use Rattle.std.specs.Prelude.{◌≡◌, [], ◌∷◌, ◌++◌, ◌+◌, ◌-◌, ◌*◌, ◌<◌, ◌≤◌, length, take, drop};
+ghost use Rattle.std.specs.Prelude as list;
 ghost use Rattle.ring.specs.Places.{place};
 ghost use Rattle.ring.specs.Records.{put, put_slot, part_slot, number_at};
 ghost use Rattle.ring.specs.Counting.{at_least, count_in, count};
@@ -74,6 +75,16 @@ pub fn tally(words: &[u32], start: usize, from: usize, n: usize, low: u32, high:
         high: x.high + y.high,
     }
 }
+
+// Copies src to the front of dst; what lies behind it stays.
+pub fn copy(src: &[u8], dst: &mut [u8])
+    requires { length src.now ≤ length dst.old }
+    ensures { dst.new ≡ take (length src.now) src.now ++ drop (length src.now) dst.old }
+{
+    let n = src.len();
+    dst[..n].copy_from_slice(src);
+}
+
 // Writes a slot's numbers, as many as there are in a record; the other slots stay.
 pub fn put_record(records: &mut [u32], slot: usize, numbers: &[u32])
     requires { slot * length numbers.now + length numbers.now ≤ length records.old }
@@ -126,20 +137,20 @@ pub fn put_payload(room: &mut [u8], slot: usize, at: usize, src: &[u8])
     let n = src.len();
     let base = slot * 1476 + at;
     let mut t = [0u8; 1476];
-    bytes::copy(src, &mut t);
-    bytes::copy(&t[0..n], &mut room[base..]);
+    copy(src, &mut t);
+    copy(&t[0..n], &mut room[base..]);
 }
 
 // Copies a slot's first bytes to byte `to` of out, in the same way; every other byte of out stays.
 pub fn get_payload(room: &[u8], slot: usize, length: usize, out: &mut [u8], to: usize)
-    requires slot_bound { slot * 1476 + 1476 ≤ lib.ListN.length room.now }
+    requires slot_bound { slot * 1476 + 1476 ≤ list.length room.now }
     requires length_len_bound { length ≤ 1476 }
-    requires length_bound { to + length ≤ lib.ListN.length out.old }
+    requires length_bound { to + length ≤ list.length out.old }
     ensures { out.new ≡ put out.old to (part_slot 1476 room.now slot 0 length) }
 {
     let base = slot * 1476;
     let end = base + length;
     let mut t = [0u8; 1476];
-    bytes::copy(&room[base..end], &mut t);
-    bytes::copy(&t[0..length], &mut out[to..]);
+    copy(&room[base..end], &mut t);
+    copy(&t[0..length], &mut out[to..]);
 }

@@ -1,5 +1,6 @@
 // The send ring in lent memory, with gaps: a slot is found by arithmetic. Of the records the first are the marks, one for each slot, and behind them
 // stand the rows, eight numbers for each.
+#![tactic(auto)]
 ghost use Rattle.std.specs.Prelude.{◌≡◌, List, [], ℕ, ◌+◌, ◌-◌, ◌*◌, ◌/◌, ◌<◌, ◌≤◌, length, get_or};
 ghost use Rattle.ring.specs.Lists.{lists};
 ghost use Rattle.ring.specs.Records.{put_slot, part_slot, number_at};
@@ -247,8 +248,8 @@ fn shift(room: &mut [u8], a: usize, n: usize, b: usize)
     let end = from + n;
     let to = b * 1476;
     let mut t = [0u8; 1476];
-    bytes::copy(&room[from..end], &mut t);
-    bytes::copy(&t[0..n], &mut room[to..]);
+    ring::copy(&room[from..end], &mut t);
+    ring::copy(&t[0..n], &mut room[to..]);
 }
 
 // Where there is a segment at index i, puts it at the index before `to`; answers the index that the next one goes before.

@@ -1,5 +1,6 @@
 // The worked values of 01 that are run: each row calls the port, and writes what was called and the number of its refusal, 0 where there is
 // none. The file stdout has the same lines, written from 01. Each group of rows is a function over the fresh block.
+#![tactic(auto)]
 ghost use Rattle.std.specs.Prelude.{◌≡◌, ◌≤◌, ◌++◌, length, get_or, drop};
 ghost use Rattle.serial.specs.Branch.{pick};
 ghost use Rattle.ring.specs.Lists.{lists};
@@ -99,7 +100,7 @@ fn put_header(datagram: &mut [u8], header: Header)
     ensures { datagram.new ≡ header_bytes header ++ drop 24 datagram.old }
 {
     let front = header.bytes();
-    bytes::copy(&front, datagram);
+    ring::copy(&front, datagram);
 }
 
 // "R = 256: rcvwnd 128 passes, 129 gets 14."

@@ -1,0 +1,16 @@
+-- `ring::put_record` meets its contract. The first i numbers are written, and nothing else has changed. Assumes nothing.
+use native.Mathlib.Omega.{arith}
+use Prim.Native.Nat.{◌-◌, ◌*◌, ◌≤◌}
+use mathlib.Core.Path.{◌≡◌, refl}
+use native.Mathlib.Nat.{add-zero}
+use lib.ListN.{length, length-set}
+use lib.Seq.{paste, paste-zero}
+use Rattle.ring.proofs.Rows.{put-turn, put-end}
+use Rattle.ring.proofs.put_record.Given as goal
+
+abbrev pub invariant-loop-i : goal.invariant-loop-i
+invariant-loop-i l =
+    (l.i ≤ length l.numbers) × ((length l.records ≡ length l.initial.records) × (l.records ≡ paste l.initial.records (l.slot * length l.numbers) l.numbers l.i))
+
+abbrev pub decreases-loop-i : goal.decreases-loop-i
+decreases-loop-i l = length l.numbers - l.i

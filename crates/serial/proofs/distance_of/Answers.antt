@@ -1,0 +1,8 @@
+-- `serial::distance_of` meets its contract. What `sub` ensures. Assumes nothing.
+use Rattle.std.proofs.Common.{rules}
+use Rattle.serial.specs.Window.{distance}
+use Rattle.serial.proofs.distance_of.Goals as goal
+
+pub returns : goal.returns
+unfolding distance
+returns c = c.sub.ensures
