@@ -6,7 +6,7 @@ ghost use Rattle.block.specs.WellFormed.{acklist_fits, ack_numbers, ack_lent};
 use crate::sizes::ack_sizes;
 use crate::{Kcp, both, wide};
 
-#[derive(Drop)]
+#[derive(Clone, Copy)]
 pub struct AckList {
     pub acks: u32,
     pub waiting: u32,

@@ -6,7 +6,7 @@ ghost use Rattle.block.specs.Setters.{interval_of, interval_of_signed};
 
 use crate::Kcp;
 
-#[derive(Drop)]
+#[derive(Clone, Copy)]
 pub struct Clock {
     pub current: u32,
     pub interval: u32,

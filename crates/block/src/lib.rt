@@ -28,7 +28,7 @@ pub mod set; // the setters
 pub mod get; // the getters
 
 // The block. A function takes the part that it needs; one on the whole block only moves parts.
-#[derive(Drop)]
+#[derive(Clone, Copy)]
 pub struct Kcp {
     pub settings: Settings,
     pub clock: Clock,

@@ -16,7 +16,7 @@ use crate::{Kcp, both};
 use estimator::Estimator;
 
 // What a constructor answers: the block, or refusal 15.
-#[derive(Drop)]
+#[derive(Clone, Copy)]
 pub enum Made {
     Block { block: Kcp },
     Refused { why: Refusal },

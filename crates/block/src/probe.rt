@@ -6,7 +6,7 @@ ghost use Rattle.block.specs.WellFormed.{probe_fits};
 use crate::sizes::within;
 use crate::{Kcp, wide};
 
-#[derive(Drop)]
+#[derive(Clone, Copy)]
 pub struct Probe {
     pub bits: u32,
     pub ts_probe: u32,

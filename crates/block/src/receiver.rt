@@ -8,7 +8,7 @@ use crate::sizes::within;
 use crate::{Kcp, both, wide, wide16};
 use rcv_ring::RcvRing;
 
-#[derive(Drop)]
+#[derive(Clone, Copy)]
 pub struct Receiver {
     pub rcv_nxt: u32,
     pub rcv_wnd: u16,

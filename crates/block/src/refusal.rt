@@ -3,7 +3,7 @@ ghost use Rattle.std.specs.Prelude.{◌≡◌};
 ghost use Rattle.block.specs.Refusals.{number_of, values_of, number_of_answer, row_of};
 
 // Why a call was refused, with the values that go with it.
-#[derive(Drop)]
+#[derive(Clone, Copy)]
 pub enum Refusal {
     InvalidSegmentSize { size: usize },
     ConvInconsistent { own: u32, met: u32 },
@@ -24,21 +24,21 @@ pub enum Refusal {
 }
 
 // What a call answers that has nothing to tell but whether it was refused.
-#[derive(Drop)]
+#[derive(Clone, Copy)]
 pub enum Answer {
     Done,
     Refused { why: Refusal },
 }
 
 // What a call answers that counts bytes: those that a send queued or that an input read, or why there are none.
-#[derive(Drop)]
+#[derive(Clone, Copy)]
 pub enum Bytes {
     Are { count: usize },
     Refused { why: Refusal },
 }
 
 // The values of a refusal as a row: how many there are, and 0 in the place of one that is missing.
-#[derive(Drop)]
+#[derive(Clone, Copy)]
 pub struct Values {
     pub count: u32,
     pub first: usize,

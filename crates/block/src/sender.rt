@@ -8,7 +8,7 @@ ghost use Rattle.block.specs.WellFormed.{sender_fits, send_numbers};
 use crate::{Kcp, both, either, wide};
 use snd_ring::SndRing;
 
-#[derive(Drop)]
+#[derive(Clone, Copy)]
 pub struct Sender {
     pub snd_una: u32,
     pub snd_nxt: u32,

@@ -8,7 +8,7 @@ use crate::refusal::{Answer, Refusal};
 use crate::sizes::within;
 
 // The block after a setter, and whether it was refused.
-#[derive(Drop)]
+#[derive(Clone, Copy)]
 pub struct Set {
     pub block: Kcp,
     pub answer: Answer,

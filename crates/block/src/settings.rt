@@ -8,7 +8,7 @@ ghost use Rattle.block.specs.Setters.{resend_of};
 use crate::sizes::within;
 use crate::{Kcp, wide};
 
-#[derive(Drop)]
+#[derive(Clone, Copy)]
 pub struct Settings {
     pub conv: u32,
     pub mtu: u32,

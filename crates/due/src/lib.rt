@@ -166,7 +166,7 @@ fn put_piece(header: Header, room: &[u8], q: usize, n: usize, out: &mut [u8], at
 }
 
 // How far the packing has come, and what was counted.
-#[derive(Drop)]
+#[derive(Clone, Copy)]
 pub struct Written {
     pub packer: Packer,
     pub tally: Tally,

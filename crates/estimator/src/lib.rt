@@ -4,7 +4,7 @@ ghost use Rattle.std.specs.Prelude.{◌≡◌};
 ghost use Rattle.estimator.specs.Estimate.{fresh, apart, timed, measured, acked};
 
 // The smoothed time (0: not measured yet), the spread, the timeout and the least timeout: rx_srtt, rx_rttval, rx_rto and rx_minrto.
-#[derive(Drop)]
+#[derive(Clone, Copy)]
 pub struct Estimator {
     pub srtt: u32,
     pub rttval: u32,

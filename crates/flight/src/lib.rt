@@ -70,7 +70,7 @@ pub fn put_record_at(records: &mut [u32], slots: usize, q: usize, record: Record
 }
 
 // The places of a row of indices: those from `from` up to `to`, and then the first `rest`.
-#[derive(Drop)]
+#[derive(Clone, Copy)]
 pub struct Runs {
     pub from: usize,
     pub to: usize,
@@ -211,7 +211,7 @@ fn tm_at(records: &[u32], slots: usize, q: usize, current: u32, tm: u32) -> u32
 }
 
 // A wait, the time when it is over, and how many times there are from then on before those that are past.
-#[derive(Drop)]
+#[derive(Clone, Copy)]
 pub struct Reckoning {
     pub tm: u32,
     pub until: u32,

@@ -5,7 +5,7 @@ ghost use Rattle.flushing.specs.Clocks.{far, restarted, due_from, next_flush, ti
 use block::clock::Clock;
 
 // The clock after an update, and whether a flush runs.
-#[derive(Drop)]
+#[derive(Clone, Copy)]
 pub struct Tick {
     pub clock: Clock,
     pub flushes: bool,

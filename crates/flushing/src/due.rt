@@ -6,7 +6,7 @@ use crate::windows::resent_of;
 use block::settings::Settings;
 
 // What is kept of a segment beside its payload, from its first flight on.
-#[derive(Drop)]
+#[derive(Clone, Copy)]
 pub struct Record {
     pub conv: u32,
     pub frg: u32,
@@ -19,7 +19,7 @@ pub struct Record {
 }
 
 // The numbers of the block that decide whether a segment goes out.
-#[derive(Drop)]
+#[derive(Clone, Copy)]
 pub struct Pace {
     pub current: u32,
     pub rx_rto: u32,
@@ -30,7 +30,7 @@ pub struct Pace {
 }
 
 // Whether and how a segment goes out: not at all, for the first time, because its time is up, or because later ones were acknowledged.
-#[derive(Drop)]
+#[derive(Clone, Copy)]
 pub enum Due {
     Idle,
     Fresh,
@@ -39,14 +39,14 @@ pub enum Due {
 }
 
 // Whether and how it goes out, and its record afterwards.
-#[derive(Drop)]
+#[derive(Clone, Copy)]
 pub struct Flown {
     pub due: Due,
     pub after: Record,
 }
 
 // What a flush counts: the timeouts ever, whether the link is dead, and whether something timed out or was resent fast.
-#[derive(Drop)]
+#[derive(Clone, Copy)]
 pub struct Tally {
     pub xmit: u32,
     pub dead: bool,

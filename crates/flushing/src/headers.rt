@@ -6,7 +6,7 @@ use crate::due::Record;
 use wire::Header;
 
 // What every header of a flush tells: the conv, what is left of the receive window, and the next number awaited.
-#[derive(Drop)]
+#[derive(Clone, Copy)]
 pub struct Told {
     pub conv: u32,
     pub wnd: u16,

@@ -16,7 +16,7 @@ use sending::{Latest, Window};
 use wire::{Command, Header, Kind};
 
 // The block so far, what the acks of the datagram gave, and how many of its pushes were skipped.
-#[derive(Drop)]
+#[derive(Clone, Copy)]
 pub struct Walk {
     pub block: Kcp,
     pub latest: Latest,
@@ -24,7 +24,7 @@ pub struct Walk {
 }
 
 // What is to be done with a segment.
-#[derive(Drop)]
+#[derive(Clone, Copy)]
 pub enum Verdict {
     Goes { kind: Kind },
     Refused { why: Refusal },
@@ -198,7 +198,7 @@ fn act(
 }
 
 // What a segment came to, and a datagram: the walk, and up to where it was read, or why it was refused.
-#[derive(Drop)]
+#[derive(Clone, Copy)]
 pub struct Walked {
     pub walk: Walk,
     pub answer: Bytes,
@@ -339,7 +339,7 @@ fn grown_by(congestion: Congestion, mss: u32, before: u32, una: u32) -> Congesti
 }
 
 // What input leaves: the block, the bytes consumed or why it was refused, and how many pushes were skipped.
-#[derive(Drop)]
+#[derive(Clone, Copy)]
 pub struct Outcome {
     pub block: Kcp,
     pub answer: Bytes,

@@ -162,7 +162,7 @@ pub fn update(
 }
 
 // What check answers: the wait in milliseconds, or why there is none.
-#[derive(Drop)]
+#[derive(Clone, Copy)]
 pub enum Wait {
     Is { wait: u32 },
     Refused { why: Refusal },

@@ -15,7 +15,7 @@ use block::set::Set;
 use receive::Length;
 
 // The block after recv, and its answer.
-#[derive(Drop)]
+#[derive(Clone, Copy)]
 pub struct Received {
     pub block: Kcp,
     pub answer: Length,

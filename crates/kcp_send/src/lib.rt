@@ -8,7 +8,7 @@ use block::Kcp;
 use block::refusal::{Bytes, Refusal};
 
 // The block after a send, and its answer.
-#[derive(Drop)]
+#[derive(Clone, Copy)]
 pub struct Sent {
     pub block: Kcp,
     pub answer: Bytes,

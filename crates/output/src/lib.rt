@@ -41,7 +41,7 @@ fn told(block: Kcp) -> Told
 
 // What a flush goes by, from the block's numbers alone: what its headers tell, what decides whether a segment goes out, the probe, the window of this
 // flush, and how many segments leave the queue.
-#[derive(Drop)]
+#[derive(Clone, Copy)]
 pub struct Plan {
     pub told: Told,
     pub pace: Pace,
@@ -71,7 +71,7 @@ fn planned(block: Kcp) -> Plan
 }
 
 // What a call leaves beside the lent memory: the block, the answer, and how many datagrams went out.
-#[derive(Drop)]
+#[derive(Clone, Copy)]
 pub struct Out {
     pub block: Kcp,
     pub answer: Answer,
@@ -210,7 +210,7 @@ fn settled(block: Kcp, plan: Plan, sender: Sender, tally: Tally) -> Kcp
 }
 
 // What the segments of a flush leave beside the lent memory: the sending side once they have left the queue, and what was counted.
-#[derive(Drop)]
+#[derive(Clone, Copy)]
 pub struct Flown {
     pub sender: Sender,
     pub tally: Tally,

@@ -11,7 +11,7 @@ use crate::puts::put_waiting;
 use flushing::headers::Told;
 
 // What flush_ack comes to: the datagrams that went out and the bytes that wait then, or refusal 13.
-#[derive(Drop)]
+#[derive(Clone, Copy)]
 pub enum Packed {
     Sent { datagrams: usize, waiting: usize },
     OutTooSmall,

@@ -5,7 +5,7 @@ ghost use Rattle.flushing.specs.Pack.{goes_size, datagram_size};
 ghost use Rattle.packing.specs.Packer.{holding, departs, sized, closed};
 
 // The bytes that have gone out; the bytes of the datagram that is being filled; the datagrams that have gone out.
-#[derive(Drop)]
+#[derive(Clone, Copy)]
 pub struct Packer {
     pub start: usize,
     pub used: usize,

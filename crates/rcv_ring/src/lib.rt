@@ -11,7 +11,7 @@ ghost use Rattle.rcv_ring.specs.Moves.{cleared, reached, stored_at, moved_by, dr
 ghost use Rattle.rcv_ring.specs.Views.{held_at, ready_of};
 
 // The place of the queue's front, how many segments are queued, and how many distances past them are held or known to be empty.
-#[derive(Drop)]
+#[derive(Clone, Copy)]
 pub struct RcvRing {
     pub start: u32,
     pub queued: u32,

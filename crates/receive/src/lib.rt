@@ -23,7 +23,7 @@ use block::sizes::receive_sizes;
 use rcv_ring::RcvRing;
 
 // What peeksize and recv answer: the message's length, or why there is none.
-#[derive(Drop)]
+#[derive(Clone, Copy)]
 pub enum Length {
     Is { length: usize },
     Refused { why: Refusal },
@@ -55,7 +55,7 @@ pub fn move_buf(receiver: Receiver, records: &[u32]) -> Receiver
 }
 
 // What a push leaves: the numbers of the receiving side and of the ack list, and how many pushes were skipped, 0 or 1.
-#[derive(Drop)]
+#[derive(Clone, Copy)]
 pub struct Pushed {
     pub receiver: Receiver,
     pub acklist: AckList,
@@ -143,7 +143,7 @@ pub fn push(
 }
 
 // How many segments the message at the front of the queue has, and how many bytes.
-#[derive(Drop)]
+#[derive(Clone, Copy)]
 pub struct Message {
     pub segments: usize,
     pub size: usize,
@@ -205,7 +205,7 @@ pub fn peeksize(receiver: Receiver, records: &[u32]) -> Length
 }
 
 // What recv leaves: the numbers of the receiving side, and its answer.
-#[derive(Drop)]
+#[derive(Clone, Copy)]
 pub struct Handed {
     pub receiver: Receiver,
     pub answer: Length,

@@ -8,7 +8,7 @@ use receive::Length;
 use wire::{Number, Put};
 
 // The refusal's number or 0, its values or the number that is answered, and the sum of what comes out.
-#[derive(Drop)]
+#[derive(Clone, Copy)]
 pub struct Answer {
     pub refusal: u32,
     pub first: usize,

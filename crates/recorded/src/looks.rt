@@ -17,7 +17,7 @@ use block::set::Set;
 use kcp_receive::Received;
 
 // The block after a call, and what the call answered.
-#[derive(Drop)]
+#[derive(Clone, Copy)]
 pub struct Made {
     pub block: Kcp,
     pub answer: Answer,

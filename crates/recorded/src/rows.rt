@@ -7,7 +7,7 @@ ghost use Rattle.recorded.specs.Rows.{row_at, whole_at, Whole};
 pub const WIDTH: usize = 44;
 
 // The call's code and arguments, how many bytes follow, and what the Rust answered and left.
-#[derive(Drop)]
+#[derive(Clone, Copy)]
 pub struct Row {
     pub code: u32,
     pub a: u32,

@@ -124,7 +124,7 @@ fn agrees(made: Made, row: Row, records: &[u32], room: &[u8]) -> bool
 }
 
 // How many steps were made and how many agreed; the first that did not, counted from 1, or 0.
-#[derive(Drop)]
+#[derive(Clone, Copy)]
 pub struct Tally {
     pub steps: usize,
     pub agreed: usize,

@@ -21,7 +21,7 @@ pub fn place_of(slots: usize, start: usize, i: usize) -> usize
 }
 
 // How many of the words in a run are at least each of two bounds.
-#[derive(Drop)]
+#[derive(Clone, Copy)]
 pub struct Counts {
     pub low: u32,
     pub high: u32,

@@ -159,7 +159,7 @@ fn queue(
 }
 
 // What a send leaves: the numbers of the sending side, and its answer.
-#[derive(Drop)]
+#[derive(Clone, Copy)]
 pub struct Sent {
     pub sender: Sender,
     pub answer: Bytes,

@@ -5,7 +5,7 @@ ghost use Rattle.sending.specs.Rules.{in_range, stops, fastack_of, later, counts
 ghost use Rattle.sending.specs.Flights.{raised_flight, raise_first};
 
 // max_ack and latest_ts, once an ack of the datagram was seen: those of its first ack, and then of each that is later in both.
-#[derive(Drop)]
+#[derive(Clone, Copy)]
 pub struct Latest {
     pub seen: bool,
     pub sn: u32,
@@ -13,14 +13,14 @@ pub struct Latest {
 }
 
 // The window of congestion, and its bytes.
-#[derive(Drop)]
+#[derive(Clone, Copy)]
 pub struct Window {
     pub cwnd: u16,
     pub incr: u64,
 }
 
 // The flight record of a segment, as far as fastack goes.
-#[derive(Drop)]
+#[derive(Clone, Copy)]
 pub struct Flight {
     pub number: u32,
     pub ts: u32,

@@ -10,7 +10,7 @@ ghost use Rattle.snd_ring.specs.Steps.{written, with_marks, renumbered, appended
 
 // Index 0 stands at place `start`. The first `reach` indices are in flight, `flying` of them segments and the others gaps; the `unsent` indices behind
 // them wait to be sent.
-#[derive(Drop)]
+#[derive(Clone, Copy)]
 pub struct SndRing {
     pub start: u32,
     pub reach: u32,

@@ -70,7 +70,7 @@ pub fn parse_una(sender: Sender, records: &[u32], una: u32) -> Sender
 }
 
 // Where the search for a number in flight ends, and whether it stands there.
-#[derive(Drop)]
+#[derive(Clone, Copy)]
 pub struct Sought {
     pub at: usize,
     pub met: bool,

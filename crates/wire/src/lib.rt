@@ -19,7 +19,7 @@ pub const TELL: u8 = 84;
 pub const OVERHEAD: usize = 24;
 
 // What a segment is for.
-#[derive(Drop)]
+#[derive(Clone, Copy)]
 pub enum Kind {
     Push,
     Ack,
@@ -28,7 +28,7 @@ pub enum Kind {
 }
 
 // What a cmd says: one of the four kinds, or none of them.
-#[derive(Drop)]
+#[derive(Clone, Copy)]
 pub enum Command {
     Known { kind: Kind },
     Unknown { cmd: u8 },
@@ -37,7 +37,7 @@ pub enum Command {
 // Refusal 16 of the scope document: under 24 bytes.
 pub const SHORT_HEADER: u32 = 16;
 
-#[derive(Drop)]
+#[derive(Clone, Copy)]
 pub struct Header {
     pub conv: u32,
     pub cmd: u8,
@@ -50,21 +50,21 @@ pub struct Header {
 }
 
 // What a helper that reads answers: the number, or refusal 16.
-#[derive(Drop)]
+#[derive(Clone, Copy)]
 pub enum Number {
     Is(u32),
     ShortHeader,
 }
 
 // What a helper that sets answers: done, or refusal 16.
-#[derive(Drop)]
+#[derive(Clone, Copy)]
 pub enum Put {
     Done,
     ShortHeader,
 }
 
 // The four bytes of a number, the low one first.
-#[derive(Drop)]
+#[derive(Clone, Copy)]
 struct Four {
     b0: u8,
     b1: u8,

@@ -1,0 +1,16 @@
+-- `snd_ring::take_out` meets its contract. Assumes nothing.
+use native.Mathlib.Omega.{arith}
+use mathlib.Core.Path.{◌∙◌}
+use lib.ListN.{length-set}
+use Rattle.snd_ring.proofs.Steps.{gapped_by, taken_by}
+use Rattle.snd_ring.proofs.take_out.Goals as goal
+
+pub slice_bounds-drop_front-end : goal.slice_bounds-drop_front-end
+slice_bounds-drop_front-end c = simp length-set (omega arith)
+
+pub returns : goal.returns
+returns c =
+    let a = c.args in
+    let n = c.slots_in-slots.ensures in
+    let p = c.place_of-q.ensures in
+    λ room. (c.drop_front.ensures ∙ taken_by 8 a.ring a.records.now room _ a.i _ n p.0 p.1, gapped_by 8 a.ring a.records.now room _ a.i _ n p.0 p.1)

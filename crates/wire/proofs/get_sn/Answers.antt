@@ -1,0 +1,11 @@
+-- `wire::get_sn` meets its contract. The helpers' law under 24 bytes, and from 24 on. Assumes nothing.
+use Rattle.wire.specs.Header.{header_at, sn_of}
+use Rattle.wire.proofs.Helpers.{got-short, got_whole}
+use Rattle.wire.proofs.get_sn.Goals as goal
+
+pub returns-then-buf-lt-OVERHEAD : goal.returns-then-buf-lt-OVERHEAD
+returns-then-buf-lt-OVERHEAD c = got-short _ c.if-buf-lt-OVERHEAD.true sn_of
+
+pub returns : goal.returns
+unfolding header_at
+returns c = got_whole _ c.if-buf-lt-OVERHEAD.false sn_of c.word.ensures
