@@ -1,5 +1,6 @@
 // The estimator of the round trip: the smoothed time, the spread and the timeout.
 #![tactic(auto)]
+
 ghost use Rattle.std.specs.Prelude.{◌≡◌};
 ghost use Rattle.estimator.specs.Estimate.{fresh, apart, timed, measured, acked};
 

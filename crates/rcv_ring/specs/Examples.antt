@@ -1,5 +1,5 @@
 -- The definitions at small closed cases: four slots, from place 3 on. Assumes nothing.
-use Rattle.std.specs.Prelude.{ℕ, ◌+◌, ◌*◌, ◌≡◌, refl, true, false, List, [], ◌∷◌, replicate}
+use Rattle.std.specs.Prelude.{◌≡◌, refl, true, false, [], ◌∷◌, replicate}
 use Rattle.ring.specs.Lists.{Lists, lists}
 use Rattle.ring.specs.Records.{put, part}
 use Rattle.ring.specs.Places.{place, summed}

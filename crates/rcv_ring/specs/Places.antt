@@ -1,6 +1,6 @@
 -- The receive ring: index 0 is the queue's front; the queue has the first indices, and behind it stand the distances past the next number awaited.
 -- Assumes nothing.
-use Rattle.std.specs.Prelude.{ℕ, ◌+◌, ◌-◌, ◌*◌, ◌≤◌, ◌<◌, ◌≡◌, Bool, ◌&&◌, List, length, eqb, leb}
+use Rattle.std.specs.Prelude.{ℕ, ◌+◌, ◌-◌, ◌*◌, ◌≤◌, ◌<◌, ◌≡◌, Bool, ◌&&◌, List, length, eqb}
 use Rattle.ring.specs.Lists.{Lists}
 use Rattle.ring.specs.Places.{place}
 use Rattle.ring.specs.Records.{part_slot}

@@ -1,5 +1,6 @@
 // The receive ring in lent memory: the queue, and behind it the reach past the next number awaited, each slot found by arithmetic.
 #![tactic(auto)]
+
 ghost use Rattle.std.specs.Prelude.{◌≡◌, ℕ, ◌+◌, ◌-◌, ◌*◌, ◌<◌, ◌≤◌, ◌^◌, min, length};
 ghost use Rattle.ring.specs.Lists.{lists};
 ghost use Rattle.ring.specs.Places.{summed, along};

@@ -1,6 +1,7 @@
 // The send ring in lent memory, with gaps: a slot is found by arithmetic. Of the records the first are the marks, one for each slot, and behind them
 // stand the rows, eight numbers for each.
 #![tactic(auto)]
+
 ghost use Rattle.std.specs.Prelude.{◌≡◌, List, [], ℕ, ◌+◌, ◌-◌, ◌*◌, ◌/◌, ◌<◌, ◌≤◌, length, get_or};
 ghost use Rattle.ring.specs.Lists.{lists};
 ghost use Rattle.ring.specs.Records.{put_slot, part_slot, number_at};

@@ -1,5 +1,6 @@
 // The segment header: 24 bytes, little-endian, and the helpers that read and set a number of it in raw bytes.
 #![tactic(auto)]
+
 ghost use Rattle.std.specs.Prelude.{◌≡◌, ◌+◌, ◌≤◌, ◌<◌, [], ◌∷◌, length};
 ghost use Rattle.wire.specs.LittleEndian.{number, le_at, Split};
 ghost use Rattle.wire.specs.Header.{header_at, header_bytes, conv_of, sn_of};

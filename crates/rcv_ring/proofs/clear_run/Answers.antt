@@ -1,9 +1,7 @@
 -- `rcv_ring::clear_run` meets its contract: what is left to clear, cleared, is the answer. Assumes nothing.
 use native.Mathlib.Omega.{arith}
-use Prim.Native.Nat.{◌-◌}
-use mathlib.Core.Path.{◌≡◌, refl, ◌∙◌}
-use lib.ListN.{length, length-set}
-use Rattle.rcv_ring.specs.Moves.{cleared}
+use mathlib.Core.Path.{refl, ◌∙◌}
+use lib.ListN.{length-set}
 use Rattle.rcv_ring.proofs.Words.{cleared_off, cleared_more}
 use Rattle.rcv_ring.proofs.clear_run.Goals as goal
 

@@ -1,10 +1,8 @@
 -- `rcv_ring::clear_run` meets its contract: what is left to clear, cleared, is the answer. Assumes nothing.
-use native.Mathlib.Omega.{arith}
 use Prim.Native.Nat.{◌-◌}
-use mathlib.Core.Path.{◌≡◌, refl, ◌∙◌}
-use lib.ListN.{length, length-set}
+use mathlib.Core.Path.{◌≡◌}
+use lib.ListN.{length}
 use Rattle.rcv_ring.specs.Moves.{cleared}
-use Rattle.rcv_ring.proofs.Words.{cleared_off, cleared_more}
 use Rattle.rcv_ring.proofs.clear_run.Given as goal
 
 abbrev pub invariant-loop-i : goal.invariant-loop-i

@@ -1,10 +1,9 @@
 -- `rcv_ring::copy_out` meets its contract: the payloads of the first i segments stand end to end. Assumes nothing.
 use native.Mathlib.Omega.{arith}
-use Prim.Native.Nat.{◌-◌, ◌≤◌}
 use mathlib.Core.Path.{◌≡◌, sym, ◌∙◌}
 use Rattle.ring.specs.Lists.{lists}
 use Rattle.rcv_ring.specs.Places.{payload_at}
-use Rattle.rcv_ring.proofs.Copies.{Copied, copied_none, copied_next, slot_in, payload-size, next_fits}
+use Rattle.rcv_ring.proofs.Copies.{copied_none, copied_next, slot_in, payload-size, next_fits}
 use Rattle.rcv_ring.proofs.copy_out.Goals as goal
 
 pub loop-i-init : goal.loop-i-init

@@ -1,9 +1,7 @@
 -- `rcv_ring::ready` meets its contract: i are held, and the rest is still to be counted. Assumes nothing.
-use native.Mathlib.Omega.{arith}
-use Prim.Native.Nat.{◌+◌, ◌-◌, ◌≤◌, min}
+use Prim.Native.Nat.{◌+◌, ◌-◌, ◌≤◌}
 use mathlib.Core.Path.{◌≡◌}
 use Rattle.rcv_ring.specs.Views.{mark_past, leading, ready_of}
-use Rattle.rcv_ring.proofs.Spans.{leading_more, leading-stops, leading_none}
 use Rattle.rcv_ring.proofs.ready.Given as goal
 
 abbrev pub invariant-loop-i : goal.invariant-loop-i

@@ -1,9 +1,9 @@
 -- `snd_ring::passed_by` meets its contract: what is left to pass from index i on, and the i before it, are the whole. Assumes nothing.
 use native.Mathlib.Omega.{arith}
-use Prim.Native.Nat.{ℕ, ◌+◌, ◌-◌, ◌≤◌}
+use Prim.Native.Nat.{ℕ, ◌-◌}
 use mathlib.Core.Path.{◌≡◌, sym, ap, ◌∙◌}
 use lib.ListN.{get_or}
-use Rattle.snd_ring.specs.Marks.{live_of, mark_at, passed}
+use Rattle.snd_ring.specs.Marks.{live_of, mark_at}
 use Rattle.snd_ring.proofs.Marks.{pass-stop, pass-turn, pass-end}
 use Rattle.snd_ring.proofs.passed_by.Goals as goal
 

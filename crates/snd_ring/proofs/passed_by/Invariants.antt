@@ -1,10 +1,7 @@
 -- `snd_ring::passed_by` meets its contract: what is left to pass from index i on, and the i before it, are the whole. Assumes nothing.
-use native.Mathlib.Omega.{arith}
-use Prim.Native.Nat.{ℕ, ◌+◌, ◌-◌, ◌≤◌}
-use mathlib.Core.Path.{◌≡◌, sym, ap, ◌∙◌}
-use lib.ListN.{get_or}
-use Rattle.snd_ring.specs.Marks.{live_of, mark_at, passed}
-use Rattle.snd_ring.proofs.Marks.{pass-stop, pass-turn, pass-end}
+use Prim.Native.Nat.{◌+◌, ◌-◌, ◌≤◌}
+use mathlib.Core.Path.{◌≡◌}
+use Rattle.snd_ring.specs.Marks.{mark_at, passed}
 use Rattle.snd_ring.proofs.passed_by.Given as goal
 
 abbrev pub invariant-loop-i : goal.invariant-loop-i

@@ -4,7 +4,7 @@ use mathlib.Core.Path.{◌≡◌}
 use Rattle.ring.specs.Lists.{lists}
 use Rattle.snd_ring.specs.Store.{store_of}
 use Rattle.snd_ring.proofs.Splits.{marks-length, same-lengths}
-use Rattle.snd_ring.proofs.Closing.{Going, going-first, going-turn, going-last}
+use Rattle.snd_ring.proofs.Closing.{going-first, going-turn, going-last}
 use Rattle.snd_ring.proofs.slide_all.Goals as goal
 
 pub loop-i-init : goal.loop-i-init

@@ -1,10 +1,7 @@
 -- `snd_ring::slide_all` meets its contract: what is left to slide from here is the whole. Assumes nothing.
-use native.Mathlib.Omega.{arith}
-use mathlib.Core.Path.{◌≡◌}
 use Rattle.ring.specs.Lists.{lists}
 use Rattle.snd_ring.specs.Store.{store_of}
-use Rattle.snd_ring.proofs.Splits.{marks-length, same-lengths}
-use Rattle.snd_ring.proofs.Closing.{Going, going-first, going-turn, going-last}
+use Rattle.snd_ring.proofs.Closing.{Going}
 use Rattle.snd_ring.proofs.slide_all.Given as goal
 
 abbrev pub invariant-loop-i : goal.invariant-loop-i
