@@ -78,7 +78,8 @@ standing_at m [] z k h = absurd (not-suc-le-zero h)
 standing_at m (s ∷ l) z zero h = rw (eq-eqb m (m + zero) (omega arith))
 standing_at m (s ∷ l) z (suc k) h =
     let e : m + suc k ≡ suc m + k = omega arith in
-    rw (ne_eqb m (m + suc k) (λ q. omega arith), e) (standing_at (suc m) l z k (le_of_suc-le-suc h))
+    let at : ℕ → Type 0 = λ i. first i (standing (suc m) l) ≡ some (get_or l k z) in
+    rw (ne_eqb m (m + suc k) (λ q. omega arith)) (subst at (sym e) (standing_at (suc m) l z k (le_of_suc-le-suc h)))
 
 -- ---- the order of the held segments, by index
 
