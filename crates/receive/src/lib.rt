@@ -1,6 +1,7 @@
 // The receive side in lent memory: the push part of input, `move_buf`, peeksize and recv, and the window setter. Each requires that the memory
 // is well formed; the public calls test that and then act.
 #![tactic(auto)]
+
 ghost use Rattle.std.specs.Prelude.{◌≡◌, true, ◌&&◌, ◌-◌, ◌<◌, ◌≤◌, max, length};
 ghost use Rattle.serial.specs.Window.{in_window};
 ghost use Rattle.ring.specs.Lists.{lists};

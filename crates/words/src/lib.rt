@@ -1,6 +1,7 @@
 // A control block as thirty-five words, for a host that keeps it as a list of numbers. Any number is a block's, but for word 0, whose bits past the
 // flags are 0; so reading tests one word, and a call loads and stores the words that it needs.
 #![tactic(auto)]
+
 ghost use Rattle.std.specs.Prelude.{◌≡◌, ◌&&◌, ◌+◌, ◌*◌, ◌/◌, ◌%◌, ◌<◌, length, set};
 ghost use Rattle.words.specs.Words.{bit, pair, flags_of, words_of, at, low, high, flag, settings_of, clock_of, estimator_of, congestion_of, probe_of, receiver_of, acklist_of, sender_of, block_of, is_block, with_flags, with_mtu_words, with_rcv_words, with_snd_words, with_windows, with_nodelay_words, with_probe_words, with_cwnd_words, with_clock_words, with_turn_words, with_count_words, with_sent_words};
 
