@@ -6,7 +6,7 @@ use native.Mathlib.Omega.{arith}
 use mathlib.Core.Path.{◌≡◌, refl, sym, ap, ◌∙◌}
 use mathlib.Core.Bool.{Bool, true, false}
 use mathlib.Core.Logic.{inl, inr, ⊎_elim}
-use mathlib.Core.List.{List, [], ◌∷◌, ◌++◌, map, map_append}
+use mathlib.Core.List.{List, [], ◌∷◌, ◌++◌, map, map-append}
 use lib.ListN.{length, take, replicate, length-append}
 use lib.Dec.{eqb}
 use borrow.Author.Tests.{eqb-false}
@@ -50,7 +50,7 @@ ack-piece-sizes t (a ∷ acks) = rw (ack-piece-sizes t acks)
 three-sizes : (a b c : List Piece) (x y z : List ℕ) → map piece_size a ≡ x → map piece_size b ≡ y → map piece_size c ≡ z
     → map piece_size (a ++ (b ++ c)) ≡ x ++ (y ++ z)
 three-sizes a b c x y z d e f =
-    map_append piece_size a (b ++ c) ∙ ap (λ (l : List ℕ). map piece_size a ++ l) (map_append piece_size b c) ∙ rw (d, e, f)
+    map-append piece_size a (b ++ c) ∙ ap (λ (l : List ℕ). map piece_size a ++ l) (map-append piece_size b c) ∙ rw (d, e, f)
 
 one-probe : (t : Told) (cmd : ℕ) (set : Bool) (acks : List Ack) → map piece_size (probe_piece t cmd set acks) ≡ pick set (24 ∷ []) []
 unfolding probe_piece
@@ -59,7 +59,7 @@ one-probe t cmd set acks = pick-ap (map piece_size) set _ []
 probe-sizes : (t : Told) (bits : ℕ) (acks : List Ack) → map piece_size (probe_pieces t bits acks) ≡ probe_sizes bits
 unfolding probe_sizes
 probe-sizes t bits acks =
-    map_append piece_size (probe_piece t ask (ask_set bits) acks) (probe_piece t tell (tell_set bits) acks)
+    map-append piece_size (probe_piece t ask (ask_set bits) acks) (probe_piece t tell (tell_set bits) acks)
     ∙ rw (one-probe t ask (ask_set bits) acks, one-probe t tell (tell_set bits) acks)
 
 due-sizes : (t : Told) (p : Pace) (l : List Segment) → map piece_size (due_pieces t p l) ≡ due_sizes p l

@@ -4,7 +4,7 @@ use native.Mathlib.Nat.{add_assoc}
 use native.Mathlib.Omega.{arith}
 use mathlib.Core.Path.{◌≡◌, refl, sym, ap, ◌∙◌}
 use mathlib.Core.Bool.{Bool, true, false}
-use mathlib.Core.List.{List, [], ◌∷◌, ◌++◌, map, map_append, append_assoc, append-nil}
+use mathlib.Core.List.{List, [], ◌∷◌, ◌++◌, map, map-append, append_assoc, append-nil}
 use lib.ListN.{length, length-append}
 use lib.Dec.{ltb}
 use borrow.Author.Tests.{ltb-false}
@@ -59,7 +59,7 @@ module _ {A : Type 0} where
     pub pack-sizes : (w : List A) (ps : List (List A)) → map length (pack mtu w ps).0 ≡ (pack_sizes mtu (length w) (map length ps)).0
     unfolding pack pack_sizes
     pack-sizes w [] = refl
-    pack-sizes w (p ∷ ps) = map_append length (goes mtu w p) _ ∙ rw (goes-size, pack-sizes (stays mtu w p) ps, stays-size)
+    pack-sizes w (p ∷ ps) = map-append length (goes mtu w p) _ ∙ rw (goes-size, pack-sizes (stays mtu w p) ps, stays-size)
 
     pub pack-rest : (w : List A) (ps : List (List A)) → length (pack mtu w ps).1 ≡ (pack_sizes mtu (length w) (map length ps)).1
     unfolding pack pack_sizes
@@ -89,7 +89,7 @@ module _ {A : Type 0} where
       pub all-sizes : map length (pack_all mtu w ps) ≡ pack_all_sizes mtu (length w) (map length ps)
       unfolding pack_all pack_all_sizes
       all-sizes =
-          map_append length (pack mtu w ps).0 (datagram_of (pack mtu w ps).1)
+          map-append length (pack mtu w ps).0 (datagram_of (pack mtu w ps).1)
           ∙ rw (datagram-size (pack mtu w ps).1, pack-sizes w ps, pack-rest w ps)
 
 -- ---- sizes: their sum, and the most
