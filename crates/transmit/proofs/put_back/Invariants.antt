@@ -1,0 +1,19 @@
+-- `transmit::put_back` meets its contract: what is left to write from record i on is the whole. Assumes nothing.
+use native.Mathlib.Omega.{arith}
+use Prim.Native.Nat.{ℕ, ◌-◌, ◌/◌, ◌≤◌}
+use mathlib.Core.Path.{◌≡◌, refl, sym, ap, ◌∙◌}
+use mathlib.Core.List.{List}
+use lib.ListN.{length}
+use Rattle.ring.specs.Lists.{lists}
+use Rattle.snd_ring.specs.Store.{store_of}
+use Rattle.transmit.specs.Portions.{put_back}
+use Rattle.transmit.proofs.Portions.{back_all, back_more, back_end}
+use Rattle.transmit.proofs.put_back.Given as goal
+
+abbrev pub invariant-loop-i : goal.invariant-loop-i
+invariant-loop-i l =
+    (l.i ≤ l.n) × (length l.records ≡ length l.initial.records)
+    × ((room : List ℕ) → put_back l.fs l.q l.i (l.n - l.i) (store_of 8 (lists l.records room)) ≡ put_back l.fs l.q 0 l.n (store_of 8 (lists l.initial.records room)))
+
+abbrev pub decreases-loop-i : goal.decreases-loop-i
+decreases-loop-i l = l.n - l.i
