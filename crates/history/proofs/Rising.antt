@@ -4,7 +4,7 @@ use Prim.Native.Nat.{ℕ, zero, suc, ◌+◌, ◌-◌, ◌≤◌, ◌<◌, ◌^�
 use native.Mathlib.Omega.{arith}
 use mathlib.Core.Path.{◌≡◌, refl, sym, ap, ◌∙◌, subst}
 use mathlib.Core.Bool.{Bool, true, false, cond}
-use mathlib.Core.List.{List, [], ◌∷◌, ◌++◌, map, map_append}
+use mathlib.Core.List.{List, [], ◌∷◌, ◌++◌, map, map-append}
 use lib.ListN.{length, take, drop, get_or, length-map}
 use lib.Seq.{length-take-le}
 use lib.Dec.{leb}
@@ -193,7 +193,7 @@ moved_risen conv current rx_rto window s w r =
     record {
       first = r.first;
       last = omega arith;
-      order = rw (map_append (λ (x : Segment). x.sn) s.flying, e)
+      order = rw (map-append (λ (x : Segment). x.sn) s.flying, e)
           (joins s.una 0 (distance s.una s.next) _ (numbers s.flying) _ r.order
           (given s.una conv current rx_rto s.next _ (take k s.waiting) r.first r.last (omega arith) (omega arith)));
       near = rw e h;

@@ -4,7 +4,7 @@ use Prim.Native.Nat.{ℕ, ◌+◌, ◌≤◌}
 use native.Mathlib.Omega.{arith}
 use mathlib.Core.Path.{◌≡◌, refl, sym, ap, ◌∙◌}
 use mathlib.Core.Bool.{Bool, true, false}
-use mathlib.Core.List.{List, [], map, map_append}
+use mathlib.Core.List.{List, [], map, map-append}
 use lib.ListN.{length, take, drop, replicate, length-take}
 use lib.Seq.{take_at}
 use Rattle.serial.specs.Branch.{pick, pick_true, pick-false}
@@ -127,7 +127,7 @@ module _ (b : Kcp) (m : Store) (acks waiting : List ℕ) (o : Sound 8 b.sender.r
   unfolding pieces_at
   pieces-short =
       let front = front_pieces (told_of b) (plan_of b).probe.bits (acks_of acks b.acklist.acks) in
-      rw (map_append length front (segments_of b m), front-sizes (told_of b) (plan_of b).probe.bits acks b.acklist.acks)
+      rw (map-append length front (segments_of b m), front-sizes (told_of b) (plan_of b).probe.bits acks b.acklist.acks)
       (at_most_append 1500 (front_sizes b.acklist.acks (plan_of b).probe.bits) (map length (segments_of b m)) (front_each b.acklist.acks (plan_of b).probe.bits) segments-most)
 
   waits-short : length (take b.acklist.waiting waiting) ≤ 1500

@@ -3,7 +3,7 @@ use Prim.Native.Nat.{ℕ, ◌+◌, ◌≤◌}
 use native.Mathlib.Omega.{arith}
 use mathlib.Core.Path.{◌≡◌, refl, sym, ap, ◌∙◌}
 use mathlib.Core.Bool.{Bool, true, false}
-use mathlib.Core.List.{List, [], ◌∷◌, ◌++◌, map, map_append, append_assoc}
+use mathlib.Core.List.{List, [], ◌∷◌, ◌++◌, map, map-append, append_assoc}
 use lib.ListN.{length, take, replicate}
 use Rattle.snd_ring.specs.Store.{Store, Sound}
 use Rattle.block.specs.declared.Kcp.{Kcp}
@@ -48,13 +48,13 @@ module _ (b : Kcp) (m : Store) (acks waiting : List ℕ) (o : Sound 8 b.sender.r
   unfolding outgoing pieces_at
   pieces-found =
       ap (map piece_bytes) (sym (append_assoc (ack_pieces (told_of b) (acks_of acks b.acklist.acks)) (probe_pieces (told_of b) (plan_of b).probe.bits (acks_of acks b.acklist.acks)) _))
-      ∙ map_append piece_bytes (ack_pieces (told_of b) (acks_of acks b.acklist.acks) ++ probe_pieces (told_of b) (plan_of b).probe.bits (acks_of acks b.acklist.acks)) _
+      ∙ map-append piece_bytes (ack_pieces (told_of b) (acks_of acks b.acklist.acks) ++ probe_pieces (told_of b) (plan_of b).probe.bits (acks_of acks b.acklist.acks)) _
       ∙ rw (← front-rule (told_of b) (plan_of b).probe.bits acks b.acklist.acks, ← segments)
 
   pub sizes-found : map length (pieces_at b m acks) ≡ sizes_at b m
   unfolding sizes_at pieces_at
   sizes-found =
-      map_append length (front_pieces (told_of b) (plan_of b).probe.bits (acks_of acks b.acklist.acks)) _
+      map-append length (front_pieces (told_of b) (plan_of b).probe.bits (acks_of acks b.acklist.acks)) _
       ∙ rw (
         front-sizes (told_of b) (plan_of b).probe.bits acks b.acklist.acks,
         ← sizes-seen (moved_at b m).sender (moved_at b m).store moved-sound (told_of b) (plan_of b).pace,

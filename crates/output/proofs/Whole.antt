@@ -2,7 +2,7 @@
 use Prim.Native.Nat.{ℕ, ◌+◌, ◌≤◌, ◌<◌, ◌^◌}
 use native.Mathlib.Omega.{arith}
 use mathlib.Core.Path.{◌≡◌, refl, sym, ap, ◌∙◌}
-use mathlib.Core.List.{List, [], ◌++◌, map, map_append, append_assoc}
+use mathlib.Core.List.{List, [], ◌++◌, map, map-append, append_assoc}
 use lib.ListN.{length, take, length-append}
 use lib.Seq.{length-take-le}
 use Rattle.ring.specs.Records.{put}
@@ -42,7 +42,7 @@ module _ (b : Kcp) (m : Store) (acks waiting : List ℕ) (wide : b.acklist.waiti
 
   cuts_both : pack_all_sizes mtu held (map length (pieces_at b m acks)) ≡ cut.0 ++ rest
   unfolding pieces_at
-  cuts_both = ap (pack_all_sizes mtu held) (map_append length front (segments_of b m)) ∙ all_append mtu held (map length front) (map length (segments_of b m))
+  cuts_both = ap (pack_all_sizes mtu held) (map-append length front (segments_of b m)) ∙ all_append mtu held (map length front) (map length (segments_of b m))
 
   pub front_fits : (held + length (flat front) ≤ length out) × (length cut.0 ≤ length lengths)
   front_fits =

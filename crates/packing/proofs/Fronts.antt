@@ -4,7 +4,7 @@ use Prim.Native.Nat.{ℕ, ◌+◌, ◌*◌, ◌-◌, ◌≤◌, ◌<◌, ◌^◌
 use native.Mathlib.Omega.{arith}
 use mathlib.Core.Path.{◌≡◌, refl, sym, ap, ◌∙◌}
 use mathlib.Core.Bool.{Bool, true, false}
-use mathlib.Core.List.{List, [], ◌∷◌, ◌++◌, map, map_append, append-nil}
+use mathlib.Core.List.{List, [], ◌∷◌, ◌++◌, map, map-append, append-nil}
 use lib.ListN.{length, take, replicate, length-append, length-replicate}
 use lib.Seq.{length-take-le}
 use Rattle.serial.specs.Branch.{pick, pick-ap}
@@ -105,15 +105,15 @@ module _ (t : Told) (bits : ℕ) (acks : List ℕ) (n : ℕ) where
   pub front-sizes : map length front ≡ front_sizes n bits
   unfolding front_pieces front_sizes
   front-sizes =
-      map_append length (ack_bytes t got) (asks ++ tells)
-      ∙ rw (map_append length asks tells, ack-sizes t acks 0 n, probe-size t ask (ask_set bits) got, probe-size t tell (tell_set bits) got)
+      map-append length (ack_bytes t got) (asks ++ tells)
+      ∙ rw (map-append length asks tells, ack-sizes t acks 0 n, probe-size t ask (ask_set bits) got, probe-size t tell (tell_set bits) got)
 
   -- the pieces of the rules
   pub front-rule : front ≡ map piece_bytes (ack_pieces t got ++ probe_pieces t bits got)
   unfolding front_pieces
   front-rule =
-      sym (map_append piece_bytes (ack_pieces t got) (probe_pieces t bits got)
-      ∙ ap (λ (l : List (List ℕ)). ack_bytes t got ++ l) (map_append piece_bytes (probe_piece t ask (ask_set bits) got) (probe_piece t tell (tell_set bits) got))
+      sym (map-append piece_bytes (ack_pieces t got) (probe_pieces t bits got)
+      ∙ ap (λ (l : List (List ℕ)). ack_bytes t got ++ l) (map-append piece_bytes (probe_piece t ask (ask_set bits) got) (probe_piece t tell (tell_set bits) got))
       ∙ rw (probe-bytes t ask (ask_set bits) got, probe-bytes t tell (tell_set bits) got))
 
   pub front_length : length (flat front) ≡ sum_of (front_sizes n bits)

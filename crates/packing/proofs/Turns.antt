@@ -5,7 +5,7 @@ use native.Mathlib.Nat.{add_assoc, add-zero, mul-suc}
 use native.Mathlib.Omega.{arith}
 use mathlib.Core.Path.{◌≡◌, refl, sym, ap, ◌∙◌}
 use mathlib.Core.Bool.{Bool, true, false}
-use mathlib.Core.List.{List, [], ◌∷◌, ◌++◌, map, map_append, append_assoc, append-nil}
+use mathlib.Core.List.{List, [], ◌∷◌, ◌++◌, map, map-append, append_assoc, append-nil}
 use lib.ListN.{length, length-append}
 use lib.Dec.{ltb}
 use borrow.Author.Tests.{lt-ltb}
@@ -295,14 +295,14 @@ module _ {mtu : ℕ} {p : Packer} {out l : List ℕ} {r : Packer} {o m : List �
   pub packing_stage-fits : (ps qs : List (List ℕ)) → Packing mtu p out l (ps ++ qs) r o m
       → (p.start + p.used + length (flat ps) ≤ length out) × (p.count + length (pack_sizes mtu p.used (map length ps)).0 ≤ length l)
   packing_stage-fits ps qs g =
-      (laying-fits (flat ps) (flat qs) (rw (flat_append ps qs) at g.bytes), cutting_stage-fits (map length ps) (map length qs) (rw (map_append length ps qs) at g.cutting))
+      (laying-fits (flat ps) (flat qs) (rw (flat_append ps qs) at g.bytes), cutting_stage-fits (map length ps) (map length qs) (rw (map-append length ps qs) at g.cutting))
 
   pub packing_stage : (ps qs : List (List ℕ)) (q : Packer) (b n : List ℕ) → Packing mtu p out l (ps ++ qs) r o m → mtu ≤ 1500 → q ≡ sized mtu p (map length ps)
       → b ≡ put out (p.start + p.used) (flat ps) → n ≡ put l p.count (pack_sizes mtu p.used (map length ps)).0 → Packing mtu q b n qs r o m
   packing_stage ps qs q b n g a e f h =
       let s = ap (λ (x : Packer). x.start + x.used) e ∙ sized-sum mtu p (map length ps) ∙ ap (λ (x : ℕ). p.start + p.used + x) (sym (length-flat ps)) in
       record {
-        cutting = cutting_stage (map length ps) (map length qs) q n (rw (map_append length ps qs) at g.cutting) a e h;
+        cutting = cutting_stage (map length ps) (map length qs) q n (rw (map-append length ps qs) at g.cutting) a e h;
         bytes = laying_on (flat ps) (flat qs) b (q.start + q.used) (rw (flat_append ps qs) at g.bytes) f s;
       }
 

@@ -1,6 +1,7 @@
 // Pieces packed into datagrams, end to end in lent bytes, and their lengths in a lent list: how far a packing has come, the front of a flush, its
 // acks and probes, and flush_ack.
 #![tactic(auto)]
+
 pub mod packer; // how far it has come
 pub mod puts; // bytes put into lent bytes
 pub mod acks; // the acks

@@ -1,6 +1,7 @@
 // send in lent memory: how many segments it needs, the fill of the last queued one, and the new ones. It requires that the memory is well
 // formed; the public call tests that and then sends.
 #![tactic(auto)]
+
 ghost use Rattle.std.specs.Prelude.{◌≡◌, List, ℕ, ◌+◌, ◌-◌, ◌/◌, ◌<◌, ◌≤◌, min, length, drop};
 ghost use Rattle.serial.specs.Branch.{pick};
 ghost use Rattle.ring.specs.Lists.{lists};

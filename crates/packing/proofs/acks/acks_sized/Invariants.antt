@@ -1,0 +1,15 @@
+-- `acks_sized` meets its contract: a turn for each ack. Assumes nothing.
+use Prim.Native.Nat.{ℕ, ◌-◌, ◌≤◌}
+use mathlib.Core.Path.{refl}
+use native.Mathlib.Omega.{arith}
+use lib.ListN.{replicate, length-replicate}
+use Rattle.packing.specs.Packer.{sized}
+use Rattle.packing.proofs.Turns.{Going, going_start, going-within, going_on, going_end}
+use Rattle.packing.proofs.AckBytes.{each_alike, total_alike, alike_all, alike_next, alike_none}
+use Rattle.packing.proofs.acks.acks_sized.Given as goal
+
+abbrev pub invariant-loop-i : goal.invariant-loop-i
+invariant-loop-i l = (l.i ≤ l.n) × Going l.mtu l.q (replicate (l.n - l.i) 24) (sized l.mtu l.initial.q (replicate l.n 24))
+
+abbrev pub decreases-loop-i : goal.decreases-loop-i
+decreases-loop-i l = l.n - l.i

@@ -1,0 +1,18 @@
+-- `put_acks` meets its contract: a header for each pair. Assumes nothing.
+use Prim.Native.Nat.{◌-◌, ◌≤◌}
+use mathlib.Core.Path.{refl}
+use native.Mathlib.Omega.{arith}
+use Rattle.ring.specs.Records.{put}
+use Rattle.flushing.specs.Pack.{flat}
+use Rattle.packing.specs.Acks.{acks_from, ack_bytes}
+use Rattle.packing.proofs.Laying.{Laying, laying-start, laying-kept, laying-end}
+use Rattle.packing.proofs.AckBytes.{acks-length, acks_none, acks_on}
+use Rattle.packing.proofs.acks.put_acks.Given as goal
+
+abbrev pub invariant-loop-i : goal.invariant-loop-i
+invariant-loop-i l =
+    (l.i ≤ l.to)
+    × Laying l.dst l.end (flat (ack_bytes l.told (acks_from l.acks l.i (l.to - l.i)))) (put l.initial.dst l.at (flat (ack_bytes l.told (acks_from l.acks l.from (l.to - l.from)))))
+
+abbrev pub decreases-loop-i : goal.decreases-loop-i
+decreases-loop-i l = l.to - l.i
