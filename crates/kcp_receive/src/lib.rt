@@ -2,6 +2,7 @@
 // its caller. A block is made by `Kcp::new` and `Kcp::new_stream`, and the setters and getters that are handed no memory are methods of it too (crate
 // block); send is crate kcp_send, and input kcp_input.
 #![tactic(auto)]
+
 ghost use Rattle.std.specs.Prelude.{◌≡◌};
 ghost use Rattle.serial.specs.Branch.{pick};
 ghost use Rattle.ring.specs.Lists.{lists};

@@ -1,5 +1,6 @@
 // The public call send: it tests the block and the send memory, and then queues or changes nothing.
 #![tactic(auto)]
+
 ghost use Rattle.ring.specs.Lists.{lists};
 ghost use Rattle.snd_ring.specs.Store.{store_of};
 ghost use Rattle.kcp_send.specs.Send.{Sends};
