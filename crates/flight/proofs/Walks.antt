@@ -1,7 +1,7 @@
 -- One law for both walks that renew rows: of segments that leave the queue, and of a flush. Each segment at the places gets its new record, and all
 -- else stays. Assumes nothing.
 use Prim.Native.Nat.{ℕ, ◌+◌}
-use mathlib.Core.Path.{◌≡◌, refl, sym, ap, ◌∙◌}
+use mathlib.Core.Path.{◌≡◌, refl, sym, ap, subst, ◌∙◌}
 use mathlib.Core.List.{List, [], ◌∷◌, ◌++◌, map}
 use lib.ListN.{length}
 use borrow.Author.Tests.{eq-eqb, ne_eqb}
@@ -122,7 +122,7 @@ module _ (f : ℕ → Record → Record) where
       let r = f x (record_in m q) in
       let n = next x q qs m in
       let s = renewed-sized m z q b.0 r in
-      let d = rw (← renewed-marks m q r) at b.1 in
+      let d : Below (length n.marks) qs = subst (λ (l : List ℕ). Below (length l) qs) (sym (renewed-marks m q r)) b.1 in
       rw (walk-live x q qs m h, segments-first (walk (add32 x 1) qs n) q qs, segments-live m q qs h, retold-first x, record_is m q)
       (rw (walk-other (add32 x 1) qs n s d q o.0, renewed-own m z q b.0 r h, walk-seen (add32 x 1) qs n s d o.1, over-apart (cell 8 n) (cell 8 m) q qs o.0 (renewed-other m z q b.0 r))))
 

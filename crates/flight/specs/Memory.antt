@@ -52,9 +52,9 @@ waiting_places r m k = places_of (length m.marks) r.start r.reach k
 
 -- the rows at these places are numbered, from sn on
 unfoldable pub launched_over : ℕ → ℕ → ℕ → ℕ → List ℕ → Store → Store
-launched_over conv current rx_rto sn [] m = m
-launched_over conv current rx_rto sn (q ∷ qs) m =
-    launched_over conv current rx_rto (add32 sn 1) qs (renewed_at m q (numbered conv sn current rx_rto (record_in m q)))
+launched_over c current rx_rto n [] m = m
+launched_over c current rx_rto n (q ∷ qs) m =
+    launched_over c current rx_rto (add32 n 1) qs (renewed_at m q (numbered c n current rx_rto (record_in m q)))
 
 -- the block's numbers once k segments have left the queue
 unfoldable pub launched_sender : ℕ → Sender → Sender

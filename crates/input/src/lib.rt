@@ -1,5 +1,6 @@
 // One segment and one datagram of input.
 #![tactic(auto)]
+
 ghost use Rattle.std.specs.Prelude.{◌≡◌, List, ℕ, ◌+◌, ◌≤◌, ◌<◌, length};
 ghost use Rattle.ring.specs.Lists.{Lists, lists};
 ghost use Rattle.snd_ring.specs.Store.{Store, store_of};
