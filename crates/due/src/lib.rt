@@ -1,6 +1,7 @@
 // The fresh and resent segments of a flush: by their sizes alone, and written. Both passes go over the places in flight, one run of them or two round
 // the ring's end, gaps passed over.
 #![tactic(auto)]
+
 ghost use Rattle.std.specs.Prelude.{◌≡◌, false, List, [], ◌∷◌, ◌++◌, ℕ, ◌+◌, ◌-◌, ◌*◌, ◌/◌, ◌≤◌, ◌<◌, ◌^◌, length, get_or};
 ghost use Rattle.ring.specs.Lists.{lists};
 ghost use Rattle.ring.specs.Records.{put, part_slot};

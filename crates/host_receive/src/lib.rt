@@ -1,6 +1,7 @@
 // The calls that are handed the receive memory, over a block that a host keeps as words. Words that are no block are refused by 15, which leaves all.
 // Each writes the words that it may change.
 #![tactic(auto)]
+
 ghost use Rattle.std.specs.Prelude.{◌≡◌};
 ghost use Rattle.ring.specs.Lists.{lists};
 ghost use Rattle.receive.specs.Memory.{number_of_length};

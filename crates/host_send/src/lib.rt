@@ -1,6 +1,7 @@
 // The call that is handed the send memory, over a block that a host keeps as words. Words that are no block are refused by 15, which leaves all. Of the
 // words it writes those of the ring alone: a send changes no others.
 #![tactic(auto)]
+
 ghost use Rattle.std.specs.Prelude.{◌≡◌};
 ghost use Rattle.ring.specs.Lists.{lists};
 ghost use Rattle.snd_ring.specs.Store.{store_of};

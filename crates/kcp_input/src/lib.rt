@@ -1,5 +1,6 @@
 // The public call input: it tests the memory of both sides and the ack memory, and then reads one datagram or changes nothing.
 #![tactic(auto)]
+
 ghost use Rattle.std.specs.Prelude.{◌≡◌, true};
 ghost use Rattle.ring.specs.Lists.{lists};
 ghost use Rattle.snd_ring.specs.Store.{store_of};
