@@ -1,5 +1,6 @@
 // The public calls flush_ack, flush, update and check: each tests the block and what it is lent, and then acts or changes nothing.
 #![tactic(auto)]
+
 ghost use Rattle.std.specs.Prelude.{◌≡◌, not, ◌&&◌};
 ghost use Rattle.ring.specs.Lists.{lists};
 ghost use Rattle.snd_ring.specs.Store.{store_of};

@@ -1,5 +1,6 @@
 // The way out in lent memory: flush_ack, flush and update, which are one turn, and check. Each requires that the memory is well formed; the public calls test that and then act.
 #![tactic(auto)]
+
 ghost use Rattle.std.specs.Prelude.{◌≡◌, List, ℕ, ◌*◌, ◌≤◌, ◌<◌, ◌^◌, length};
 ghost use Rattle.block.specs.WellFormed.{SettingsFit, ProbeFits, AckListFits, OwnNumbers};
 ghost use Rattle.block.specs.declared.refusal.Answer.TheVariants.{Done as Finished, Refused as Unsent};
