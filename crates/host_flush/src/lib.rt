@@ -1,5 +1,6 @@
 // flush_ack, flush, update and check of a block that a host keeps as words.
 #![tactic(auto)]
+
 ghost use Rattle.std.specs.Prelude.{◌≡◌, eqb, length};
 ghost use Rattle.serial.specs.Branch.{pick};
 ghost use Rattle.words.specs.Words.{with_turn_words, with_sent_words};

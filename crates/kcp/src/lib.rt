@@ -3,6 +3,7 @@
 // The block is a plain value, and what it keeps stands in lent memory: records and room of the receive side, records and room of the sending side, the ack
 // list, and the bytes that wait. get_conv, set_conv and get_sn, which read and write a header, are the module `header`.
 #![tactic(auto)]
+
 mod header;
 
 ghost use Rattle.std.specs.Prelude.{◌≡◌, ◌+◌};
