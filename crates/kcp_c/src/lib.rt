@@ -1,5 +1,6 @@
 // The functions that a host in C or Rust links. A slice is a pointer and a length; a place for a number is a pointer to it.
 #![tactic(auto)]
+
 ghost use Rattle.std.specs.Prelude.{◌≡◌, min, max};
 ghost use Rattle.serial.specs.Wrap.{timediff};
 ghost use Rattle.wire.specs.Header.{conv_of, sn_of, header_at, header_bytes};
