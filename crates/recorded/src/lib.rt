@@ -1,5 +1,6 @@
 // The calls of a recording of the Rust, made on the port: each by its code, with its answer as the numbers of a step.
 #![tactic(auto)]
+
 pub mod sums; // messages and sums
 pub mod rows; // the steps of the recording
 pub mod answers; // answers as the numbers of a step

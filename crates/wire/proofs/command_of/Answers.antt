@@ -1,6 +1,7 @@
 -- `wire::command_of` meets its contract. The law of each kind. Assumes nothing.
 use mathlib.Core.Path.{sym}
 use Rattle.wire.proofs.Commands.{kind-push, kind-ack, kind-ask, kind-tell, kind-other}
+use Rattle.std.proofs.Common.{arith}
 use Rattle.wire.proofs.command_of.Goals as goal
 
 pub returns-in-81 : goal.returns-in-81
@@ -16,4 +17,4 @@ pub returns-in-84 : goal.returns-in-84
 returns-in-84 c = sym (kind-tell c.in-84.is)
 
 pub returns-in_default : goal.returns-in_default
-returns-in_default c = let r = c.in_default.in_default-own.rest in sym (kind-other r.0.0.0.1 r.0.0.1 r.0.1 r.1)
+returns-in_default c = sym (kind-other (λ h. omega arith) (λ h. omega arith) (λ h. omega arith) (λ h. omega arith))

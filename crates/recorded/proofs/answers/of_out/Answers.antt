@@ -1,0 +1,15 @@
+-- `recorded::answers::of_out` meets its contract. Either answer. Assumes nothing.
+use Rattle.std.proofs.Common.{rules}
+use Rattle.recorded.proofs.answers.of_out.Goals as goal
+
+pub wide-requires : goal.wide-requires
+wide-requires c = tt
+
+pub refused_by-requires : goal.refused_by-requires
+refused_by-requires c = tt
+
+pub returns-in-Done : goal.returns-in-Done
+returns-in-Done c = rw (c.in-Done.is, c.wide.ensures.value)
+
+pub returns-in-Refused : goal.returns-in-Refused
+returns-in-Refused c = rw c.in-Refused.is c.refused_by.ensures

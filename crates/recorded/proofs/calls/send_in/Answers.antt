@@ -1,0 +1,10 @@
+-- `recorded::calls::send_in` meets its contract. What the calls ensure. Assumes nothing.
+use Rattle.recorded.proofs.Making.{sends_in}
+use Rattle.std.proofs.Common.{rules}
+use Rattle.recorded.proofs.calls.send_in.Goals as goal
+
+pub by_send-requires : goal.by_send-requires
+by_send-requires c = tt
+
+pub returns : goal.returns
+returns c = sends_in _ _ _ _ c.fill.ensures c.send-out.ensures.is c.by_send.ensures

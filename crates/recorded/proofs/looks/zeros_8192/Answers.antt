@@ -1,0 +1,11 @@
+-- `recorded::looks::zeros_8192` meets its contract: a repeat is as long as its count. Assumes nothing.
+use Rattle.recorded.proofs.Zeros.{all-zeros}
+use Rattle.recorded.proofs.looks.zeros_8192.Goals as goal
+
+pub returns : goal.returns
+returns c =
+    let r = all-zeros 8192 in
+    record {
+      value = r.0;
+      value_2 = r.1;
+    }
