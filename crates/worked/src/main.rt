@@ -1,6 +1,7 @@
 // The worked values of 01 that are run: each row calls the port, and writes what was called and the number of its refusal, 0 where there is
 // none. The file stdout has the same lines, written from 01. Each group of rows is a function over the fresh block.
 #![tactic(auto)]
+
 ghost use Rattle.std.specs.Prelude.{◌≡◌, ◌≤◌, ◌++◌, length, get_or, drop};
 ghost use Rattle.serial.specs.Branch.{pick};
 ghost use Rattle.ring.specs.Lists.{lists};
@@ -13,20 +14,17 @@ ghost use Rattle.kcp_input.specs.Input.{input_of, input_number};
 use block::Kcp;
 use block::make::Made;
 use block::refusal::Bytes;
-use libc::STDOUT_FILENO;
+use std::io;
 use wire::Header;
 
 // A line: what the number is, and the number.
-fn write_line(what: &[u8], number: u64) {
-    io::write_all(STDOUT_FILENO, what);
-    io::write_all(STDOUT_FILENO, b": ");
-    io::print_decimal(STDOUT_FILENO, number);
-    io::write_all(STDOUT_FILENO, b"\n");
+fn write_line(rt: &impl Print, what: &str, number: u64) -> io::Result<()> {
+    println!(rt; "{what}: {number}")
 }
 
 // The line of one row.
-fn write_row(called: &[u8], number: u32) {
-    write_line(called, number as u64);
+fn write_row(rt: &impl Print, called: &str, number: u32) -> io::Result<()> {
+    write_line(rt, called, number as u64)
 }
 
 // The number of what set_wndsize answers.
@@ -104,19 +102,22 @@ fn put_header(datagram: &mut [u8], header: Header)
 }
 
 // "R = 256: rcvwnd 128 passes, 129 gets 14."
-fn window_rows(block: Kcp, records: &[u32], room: &[u8]) {
+fn window_rows(rt: &impl Print, block: Kcp, records: &[u32], room: &[u8]) -> io::Result<()> {
     write_row(
-        b"R = 256, set_wndsize(0, 128)",
+        rt,
+        "R = 256, set_wndsize(0, 128)",
         wndsize_number(block, 0, 128, records, room),
-    );
+    )?;
     write_row(
-        b"R = 256, set_wndsize(0, 129)",
+        rt,
+        "R = 256, set_wndsize(0, 129)",
         wndsize_number(block, 0, 129, records, room),
-    );
+    )
 }
 
 // "Input of 1,500 bytes is read, 1,501 gets 11": the first 1,500 bytes of the datagram, and all 1,501.
 fn input_rows(
+    rt: &impl Print,
     block: Kcp,
     records: &mut [u32],
     room: &mut [u8],
@@ -125,7 +126,7 @@ fn input_rows(
     acks: &mut [u32],
     waiting: &[u8],
     datagram: &[u8],
-)
+) -> io::Result<()>
     requires { 1501 ≡ length datagram.now }
 {
     let read = heard(
@@ -138,8 +139,8 @@ fn input_rows(
         waiting,
         &datagram[..1500],
     );
-    write_row(b"input of 1500 bytes", bytes_number(read));
-    write_line(b"its bytes consumed", bytes_count(read) as u64);
+    write_row(rt, "input of 1500 bytes", bytes_number(read))?;
+    write_line(rt, "its bytes consumed", bytes_count(read) as u64)?;
     let longer = heard(
         block,
         records,
@@ -150,27 +151,28 @@ fn input_rows(
         waiting,
         datagram,
     );
-    write_row(b"input of 1501 bytes", bytes_number(longer));
+    write_row(rt, "input of 1501 bytes", bytes_number(longer))
 }
 
 // "mtu 49 and 1,501 get 10", and the ends that pass.
-fn mtu_rows(block: Kcp) {
-    write_row(b"set_mtu(49)", mtu_number(block, 49));
-    write_row(b"set_mtu(50)", mtu_number(block, 50));
-    write_row(b"set_mtu(1500)", mtu_number(block, 1500));
-    write_row(b"set_mtu(1501)", mtu_number(block, 1501));
+fn mtu_rows(rt: &impl Print, block: Kcp) -> io::Result<()> {
+    write_row(rt, "set_mtu(49)", mtu_number(block, 49))?;
+    write_row(rt, "set_mtu(50)", mtu_number(block, 50))?;
+    write_row(rt, "set_mtu(1500)", mtu_number(block, 1500))?;
+    write_row(rt, "set_mtu(1501)", mtu_number(block, 1501))
 }
 
 // One update: its number, how many datagrams went out, and where the clock and the next flush then stand.
 fn update_row(
-    called: &[u8],
+    rt: &impl Print,
+    called: &str,
     block: Kcp,
     current: u32,
     records: &mut [u32],
     room: &[u8],
     acks: &[u32],
     waiting: &[u8],
-) -> Kcp {
+) -> io::Result<Kcp> {
     let mut out = [0u8; 64];
     let mut lengths = [0u16; 4];
     let updated = kcp_flush::update(
@@ -186,48 +188,66 @@ fn update_row(
     let answer = updated.answer;
     let after = updated.block;
     let clock = after.clock;
-    write_row(called, answer.number());
-    write_line(b"its datagrams", updated.datagrams as u64);
-    write_line(b"the clock then", clock.current as u64);
-    write_line(b"ts_flush then", clock.ts_flush as u64);
-    after
+    write_row(rt, called, answer.number())?;
+    write_line(rt, "its datagrams", updated.datagrams as u64)?;
+    write_line(rt, "the clock then", clock.current as u64)?;
+    write_line(rt, "ts_flush then", clock.ts_flush as u64)?;
+    Ok(after)
 }
 
 // The first update opens the window for one segment and sets ts_flush to 20,100; "hi" then waits for a flush.
-fn hi_waits(block: Kcp, records: &mut [u32], room: &mut [u8], acks: &[u32], waiting: &[u8]) -> Kcp {
+fn hi_waits(
+    rt: &impl Print,
+    block: Kcp,
+    records: &mut [u32],
+    room: &mut [u8],
+    acks: &[u32],
+    waiting: &[u8],
+) -> io::Result<Kcp> {
     let first = update_row(
-        b"update(20000), the first",
+        rt,
+        "update(20000), the first",
         block,
         20000,
         records,
         room,
         acks,
         waiting,
-    );
+    )?;
     let sent = kcp_send::send(first, records, room, b"hi");
-    sent.block
+    Ok(sent.block)
 }
 
 // "Updated block, clock 10,000 before ts_flush: update only stores the time. 10,001 before: ts_flush restarts and a flush runs."
-fn clock_rows(block: Kcp, records: &mut [u32], room: &[u8], acks: &[u32], waiting: &[u8]) {
+fn clock_rows(
+    rt: &impl Print,
+    block: Kcp,
+    records: &mut [u32],
+    room: &[u8],
+    acks: &[u32],
+    waiting: &[u8],
+) -> io::Result<()> {
     let stored = update_row(
-        b"update(10100), 10000 before ts_flush",
+        rt,
+        "update(10100), 10000 before ts_flush",
         block,
         10100,
         records,
         room,
         acks,
         waiting,
-    );
+    )?;
     update_row(
-        b"update(10099), 10001 before ts_flush",
+        rt,
+        "update(10099), 10001 before ts_flush",
         stored,
         10099,
         records,
         room,
         acks,
         waiting,
-    );
+    )?;
+    Ok(())
 }
 
 // The payloads of 256 receive slots and of 128 send slots, and 1,501 bytes. Each contract gives the length alone, which lending the array needs.
@@ -272,38 +292,39 @@ fn datagram() -> [u8; 1501]
 
 // Makes a fresh block over the memory lent, and writes the rows of the clock.
 fn rows_of_clock(
+    rt: &impl Print,
     records: &[u32],
     room: &[u8],
     snd_records: &mut [u32],
     snd_room: &mut [u8],
     acks: &[u32],
     waiting: &[u8],
-) {
+) -> io::Result<()> {
     let made = Kcp::new(1, records, room, snd_records, snd_room, acks, waiting);
     let Made::Block { block } = made else {
-        io::write_all(STDOUT_FILENO, b"no block\n");
-        return;
+        return println!(rt; "no block");
     };
-    let waits = hi_waits(block, snd_records, snd_room, acks, waiting);
-    clock_rows(waits, snd_records, snd_room, acks, waiting);
+    let waits = hi_waits(rt, block, snd_records, snd_room, acks, waiting)?;
+    clock_rows(rt, waits, snd_records, snd_room, acks, waiting)
 }
 
 // Makes a fresh block over the memory lent, and writes the other rows.
 fn rows(
+    rt: &impl Print,
     records: &mut [u32],
     room: &mut [u8],
     snd_records: &mut [u32],
     snd_room: &[u8],
     acks: &mut [u32],
     waiting: &[u8],
-) {
+) -> io::Result<()> {
     let made = Kcp::new(1, records, room, snd_records, snd_room, acks, waiting);
     let Made::Block { block } = made else {
-        io::write_all(STDOUT_FILENO, b"no block\n");
-        return;
+        return println!(rt; "no block");
     };
-    window_rows(block, records, room);
+    window_rows(rt, block, records, room)?;
     input_rows(
+        rt,
         block,
         records,
         room,
@@ -312,12 +333,12 @@ fn rows(
         acks,
         waiting,
         &datagram(),
-    );
-    mtu_rows(block);
+    )?;
+    mtu_rows(rt, block)
 }
 
 // R = 256, P = 128 and A = 128.
-fn main() {
+fn main(rt: HostRuntime) -> io::Result<()> {
     let mut records = [0u32; 256];
     let mut room = receive_room();
     let mut snd_records = [0u32; 1152];
@@ -325,19 +346,21 @@ fn main() {
     let mut acks = [0u32; 256];
     let waiting = [0u8; 1500];
     rows(
+        &rt,
         &mut records,
         &mut room,
         &mut snd_records,
         &snd_room,
         &mut acks,
         &waiting,
-    );
+    )?;
     rows_of_clock(
+        &rt,
         &records,
         &room,
         &mut snd_records,
         &mut snd_room,
         &acks,
         &waiting,
-    );
+    )
 }

@@ -2,11 +2,7 @@
 use Prim.Native.Nat.{ℕ}
 use mathlib.Core.Path.{sym}
 use lib.ListN.{length-replicate}
-use Rattle.worked.proofs.send_room.Statement.{statement}
-use Rattle.worked.proofs.send_room.Tie as tie
+use Rattle.worked.proofs.send_room.Goals as goal
 
-returns : tie.Need-returns
+pub returns : goal.returns
 returns c = sym (length-replicate {0} {A = ℕ} 188928 0)
-
-pub send-room-spec : {M : Type 1} → statement M
-send-room-spec = tie.close (tie.spec returns)
