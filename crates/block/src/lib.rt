@@ -1,6 +1,7 @@
 // The control block: its parts by value, its constants, how it is made, the refusals and their numbers, whether it is well formed, and the
 // setters and getters that are handed no pool.
 #![tactic(auto)]
+
 ghost use Rattle.std.specs.Prelude.{◌≡◌, ◌<◌, ◌^◌, ◌&&◌, ◌||◌};
 
 use acklist::AckList;

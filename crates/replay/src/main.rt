@@ -1,9 +1,10 @@
 // The Rust's own answers, replayed: each call of a recording is made on the port, and its answer and the block's numbers after it are held to what the
 // Rust gave. Reads the recording from standard input; writes how many steps agreed, and the first that did not.
 #![tactic(auto)]
+
 mod judge; // the comparison, and the run
 
-ghost use Rattle.std.specs.Prelude.{◌≡◌, length};
+ghost use Rattle.std.specs.Prelude.{◌≡◌, ◌≤◌, length, IfOk};
 
 use block::Kcp;
 use block::acklist::AckList;
@@ -15,20 +16,31 @@ use block::sender::Sender;
 use block::settings::Settings;
 use estimator::Estimator;
 use judge::{Tally, run};
-use libc::{STDIN_FILENO, STDOUT_FILENO};
+use std::io::{self, Read};
 
 // The tally in words.
-fn write_tally(tally: Tally) {
-    io::print_decimal(STDOUT_FILENO, tally.steps as u64);
-    io::write_all(STDOUT_FILENO, b" steps, ");
-    io::print_decimal(STDOUT_FILENO, tally.agreed as u64);
-    io::write_all(STDOUT_FILENO, b" agree\nfirst that does not: ");
+fn write_tally(rt: &impl Print, tally: Tally) -> io::Result<()> {
+    println!(rt; "{} steps, {} agree", tally.steps, tally.agreed)?;
     if tally.first == 0 {
-        io::write_all(STDOUT_FILENO, b"none\n");
-        return;
+        return println!(rt; "first that does not: none");
     }
-    io::print_decimal(STDOUT_FILENO, tally.first as u64);
-    io::write_all(STDOUT_FILENO, b"\n");
+    println!(rt; "first that does not: {}", tally.first)
+}
+
+// Reads what is to come, as far as buf holds it, and answers how many bytes. Each read but the last gives a byte at least.
+fn read_full(rt: &impl Input, buf: &mut [u8]) -> io::Result<usize>
+    ensures { IfOk result (λ n. n ≤ length buf.new) }
+{
+    let mut reader = rt.reader();
+    let mut n = 0;
+    while n < buf.len() {
+        let more = reader.read(&mut buf[n..])?;
+        if more == 0 {
+            break;
+        }
+        n += more;
+    }
+    Ok(n)
 }
 
 // The payloads of 1,024 slots, and the smaller arrays. Each contract gives the length alone, which lending the array needs.
@@ -77,16 +89,16 @@ fn before() -> Kcp {
 }
 
 // R = 1,024, P = 1,024, A = 4,096.
-fn main() {
+fn main(rt: HostRuntime) -> io::Result<()> {
     let mut recording = recording();
-    let read = io::read_full(STDIN_FILENO, &mut recording);
+    let read = read_full(&rt, &mut recording)?;
     let mut rcv_records = numbers_1024();
     let mut rcv_room = room();
     let mut snd_records = numbers_9216();
     let mut snd_room = room();
     let mut acks = numbers_8192();
     let mut waiting = [0u8; 1500];
-    write_tally(run(
+    let tally = run(
         before(),
         &recording[..read],
         &mut rcv_records,
@@ -95,5 +107,6 @@ fn main() {
         &mut snd_room,
         &mut acks,
         &mut waiting,
-    ));
+    );
+    write_tally(&rt, tally)
 }

@@ -1,5 +1,6 @@
 // A ring of slots in lent memory: the place of an index, records and payloads by their place, and the count that a test makes of its words.
 #![tactic(auto)]
+
 ghost use Rattle.std.specs.Prelude.{◌≡◌, [], ◌∷◌, ◌++◌, ◌+◌, ◌-◌, ◌*◌, ◌<◌, ◌≤◌, length, take, drop};
 ghost use Rattle.std.specs.Prelude as list;
 ghost use Rattle.ring.specs.Places.{place};

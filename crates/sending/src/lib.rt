@@ -1,5 +1,6 @@
 // The sending side's rules (specs/), and what they do with numbers: the range in flight, the latest ack, a fastack, the window's growth.
 #![tactic(auto)]
+
 ghost use Rattle.std.specs.Prelude.{◌≡◌, false, ◌<◌, ◌≤◌, max, length};
 ghost use Rattle.sending.specs.Rules.{in_range, stops, fastack_of, later, counts, past_threshold, rounded_up, opened, cut_to, grown};
 ghost use Rattle.sending.specs.Flights.{raised_flight, raise_first};

@@ -76,13 +76,13 @@ loop-i-preserved c =
     let k = mark_is a.ring a.records.now [] l.i e p in
     let i = l.invariant.2 in
     elim c.if-records-q-ne0.branch [
-      then-records-q-ne0+else-not-after w ↦
-        let u = w.number_at.ensures ∙ number_is a.ring a.records.now [] l.i e p 2 in
-        let s = counts_on a.una a.ring m l.i (omega arith) (λ z. w.if-records-q-ne0.true (k ∙ z)) (sym (ap (after a.una) u) ∙ sym w.after.ensures ∙ w.if-not-after.false) in
-        (omega arith, omega arith, omega arith)
-    | else-records-q-ne0 w ↦
-        let s = ap (acknowledged_by a.una) (left-gap a.ring m l.i (omega arith) (sym k ∙ w.if-records-q-ne0.false)) in
-        (omega arith, omega arith, omega arith)
+      | then-records-q-ne0+else-not-after w ↦
+          let u = w.number_at.ensures ∙ number_is a.ring a.records.now [] l.i e p 2 in
+          let s = counts_on a.una a.ring m l.i (omega arith) (λ z. w.if-records-q-ne0.true (k ∙ z)) (sym (ap (after a.una) u) ∙ sym w.after.ensures ∙ w.if-not-after.false) in
+          (omega arith, omega arith, omega arith)
+      | else-records-q-ne0 w ↦
+          let s = ap (acknowledged_by a.una) (left-gap a.ring m l.i (omega arith) (sym k ∙ w.if-records-q-ne0.false)) in
+          (omega arith, omega arith, omega arith)
     ]
 
 pub returns : goal.returns

@@ -51,8 +51,8 @@ loop-q-preserved c =
       omega arith,
       passed_more (ends_at c.args.sn (store_of 8 (lists a []))) c.args.from l.q l.invariant.2
           (elim c.if-ends.branch [
-            then-ends+else-records-q-ne0 w ↦ on-gap c.args.sn a l.q c.requires.slots_value (omega arith) w.if-records-q-ne0.false
-          | else-ends w ↦ on_by c.args.sn a l.q c.requires.slots_value (omega arith) c.number_at.ensures c.ends.ensures w.if-ends.false
+            | then-ends+else-records-q-ne0 w ↦ on-gap c.args.sn a l.q c.requires.slots_value (omega arith) w.if-records-q-ne0.false
+            | else-ends w ↦ on_by c.args.sn a l.q c.requires.slots_value (omega arith) c.number_at.ensures c.ends.ensures w.if-ends.false
           ]),
     )
 

@@ -18,8 +18,8 @@ pub shape_of-lengths : goal.shape_of-lengths
 shape_of-lengths c =
     let args = c.args in
     elim c.if-departs.branch [
-      then-departs w ↦ ap length w.lengths-is ∙ length-set args.lengths.now args.self.count args.self.used
-    | else-departs w ↦ ap length w.lengths-is
+      | then-departs w ↦ ap length w.lengths-is ∙ length-set args.lengths.now args.self.count args.self.used
+      | else-departs w ↦ ap length w.lengths-is
     ]
 
 pub returns : goal.returns
@@ -29,8 +29,8 @@ returns c =
     record {
       value = c.size.ensures;
       lengths_after =
-        elim c.if-departs.branch [
-          then-departs w ↦ let e = (turn-leaves args.mtu args.self args.n _ d w.if-departs.true).1 in w.lengths-is ∙ rw e (put_one _ _ _ (omega (arith, ap length e)))
-        | else-departs w ↦ w.lengths-is ∙ rw (turn-joins args.mtu args.self args.n _ d w.if-departs.false).1 (sym (put_none _ _))
-        ];
+          elim c.if-departs.branch [
+            | then-departs w ↦ let e = (turn-leaves args.mtu args.self args.n _ d w.if-departs.true).1 in w.lengths-is ∙ rw e (put_one _ _ _ (omega (arith, ap length e)))
+            | else-departs w ↦ w.lengths-is ∙ rw (turn-joins args.mtu args.self args.n _ d w.if-departs.false).1 (sym (put_none _ _))
+          ];
     }
