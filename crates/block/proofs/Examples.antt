@@ -5,7 +5,6 @@ use mathlib.Core.Bool.{Bool, true, false, ◌&&◌}
 use mathlib.Core.List.{List, [], ◌∷◌, ◌++◌, map}
 use lib.IntN.{ℤ, pos, negsuc}
 use Rattle.serial.specs.Branch.{pick}
-use Rattle.block.specs.declared.probe.Probe.{Probe}
 use Rattle.block.specs.declared.receiver.Receiver.{Receiver}
 use Rattle.block.specs.declared.Kcp.{Kcp}
 use Rattle.block.specs.declared.set.Set.{Set}
@@ -14,7 +13,7 @@ use Rattle.block.specs.Parts.{with_probe, with_receiver}
 use Rattle.block.specs.Sizes.{receive_sizes, send_sizes, ack_sizes}
 use Rattle.block.specs.Fresh.{fresh, fresh_plain}
 use Rattle.block.specs.WellFormed.{settings_fit, probe_fits, receiver_fits, sender_fits, acklist_fits, own_numbers, receive_numbers}
-use Rattle.block.specs.Setters.{set_mtu, set_interval, set_nodelay, set_fast_resend, interval_of, interval_of_signed, resend_of, minrto_of}
+use Rattle.block.specs.Setters.{set_mtu, set_nodelay, set_fast_resend, interval_of, interval_of_signed, resend_of, minrto_of}
 
 pub record Row : Type 0 where
   pub gives : List ℕ

@@ -3,7 +3,7 @@ use Prim.Native.Nat.{ℕ}
 use mathlib.Core.Path.{◌≡◌, refl, sym, ap, ◌∙◌}
 use mathlib.Core.Bool.{Bool, true, false, ◌&&◌}
 use lib.ListN.{length}
-use Rattle.serial.specs.Branch.{pick, pick_true, pick-false}
+use Rattle.serial.specs.Branch.{pick_true, pick-false}
 use Rattle.block.specs.declared.Kcp.{Kcp}
 use Rattle.block.specs.declared.make.Made.TheVariants.{Block, Refused}
 use Rattle.block.specs.declared.refusal.Refusal.TheVariants.{BadPool, InvalidMtu}

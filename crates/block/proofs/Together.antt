@@ -1,5 +1,5 @@
 -- The laws of two tests together. Assumes nothing.
-use mathlib.Core.Path.{◌≡◌, refl, sym}
+use mathlib.Core.Path.{◌≡◌}
 use mathlib.Core.Bool.{Bool, true, false, ◌&&◌, ◌||◌}
 
 -- where the first holds, the second decides

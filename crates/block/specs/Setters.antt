@@ -1,5 +1,5 @@
 -- The setters that are handed no pool, each in the steps of the Rust's function of that name. Assumes nothing.
-use Rattle.std.specs.Prelude.{ℕ, ◌≡◌, Bool, true, List, [], ◌∷◌, ltb, ℤ, pos, nat_abs}
+use Rattle.std.specs.Prelude.{ℕ, ◌≡◌, Bool, true, [], ◌∷◌, ltb, ℤ, pos, nat_abs}
 use Rattle.std.specs.Int.Signed.{lt_z, le_z}
 use Rattle.serial.specs.Branch.{pick}
 use Rattle.block.specs.declared.Kcp.{Kcp}

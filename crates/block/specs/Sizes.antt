@@ -2,7 +2,7 @@
 -- Ack list A: 128 to 4,096 pairs. R, P, A are the lent sizes".
 -- Each side is lent records, so many numbers for each slot, and room; the ack memory is pairs and the bytes that wait.
 -- Assumes nothing.
-use Rattle.std.specs.Prelude.{ℕ, ◌+◌, ◌-◌, ◌*◌, ◌/◌, ◌≤◌, ◌≡◌, Bool, ◌&&◌, leb, eqb}
+use Rattle.std.specs.Prelude.{ℕ, ◌-◌, ◌*◌, ◌/◌, ◌≤◌, ◌≡◌, Bool, ◌&&◌, leb, eqb}
 
 -- x is from least to most, as a test and as a fact
 abbrev pub within : ℕ → ℕ → ℕ → Bool

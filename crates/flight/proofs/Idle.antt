@@ -3,15 +3,14 @@ use Prim.Native.Nat.{ℕ, zero, suc, ◌+◌, ◌-◌, ◌<◌, ◌^◌}
 use native.Mathlib.Omega.{arith}
 use mathlib.Core.Path.{◌≡◌, refl, sym, ap, ◌∙◌}
 use mathlib.Core.Bool.{Bool, true, false}
-use mathlib.Core.List.{List, [], ◌∷◌, ◌++◌}
+use mathlib.Core.List.{List, [], ◌∷◌}
 use lib.ListN.{length}
 use Rattle.serial.specs.Branch.{pick}
 use Rattle.serial.specs.Wrap.{add32}
 use Rattle.snd_ring.specs.Store.{Store, Sized}
-use Rattle.snd_ring.specs.Steps.{ring}
 use Rattle.snd_ring.proofs.Marks.{by-live}
 use Rattle.block.specs.declared.sender.Sender.{Sender}
-use Rattle.transmit.specs.Memory.{Side, side}
+use Rattle.transmit.specs.Memory.{side}
 use Rattle.flushing.specs.declared.due.Pace.{Pace}
 use Rattle.flushing.specs.declared.due.Due.{Due}
 use Rattle.flushing.specs.declared.due.Due.TheVariants.{Idle, Fresh, TimedOut, Fast}
@@ -20,7 +19,7 @@ use Rattle.flushing.specs.Due.{due_of, sent_as, flown_by, goes_out, with_sent}
 use Rattle.flushing.specs.Pack.{sum_of}
 use Rattle.flushing.proofs.Packing.{sum_append}
 use Rattle.flight.specs.Places.{places_of}
-use Rattle.flight.specs.Memory.{record_in, mark_in, waiting_places, launched_sender, launched_at, flown_at, flown_over, tallied_at, tally_over, goes_at, size_in, size_at, sizes_over, fresh_sizes}
+use Rattle.flight.specs.Memory.{record_in, mark_in, launched_sender, launched_at, flown_at, flown_over, tallied_at, tally_over, goes_at, size_in, size_at, sizes_over, fresh_sizes}
 use Rattle.flight.proofs.Places.{Below, places_none}
 use Rattle.flight.proofs.Rows.{renewed_same}
 use Rattle.flight.proofs.Walks.{flown-gap, flown-live, flown_none, flown-first, launched_none}

@@ -15,7 +15,7 @@ use Rattle.snd_ring.proofs.Marks.{by-live}
 use Rattle.snd_ring.proofs.Views.{segment_at, in-room}
 use Rattle.block.specs.declared.sender.Sender.{Sender}
 use Rattle.sending.specs.Rules.{Segment}
-use Rattle.transmit.specs.Memory.{resendts, segment_of, seen}
+use Rattle.transmit.specs.Memory.{segment_of, seen}
 use Rattle.flushing.specs.declared.due.Pace.{Pace}
 use Rattle.flushing.specs.declared.due.Tally.{Tally}
 use Rattle.flushing.specs.declared.headers.Told.{Told}

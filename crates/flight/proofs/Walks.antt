@@ -1,6 +1,6 @@
 -- One law for both walks that renew rows: of segments that leave the queue, and of a flush. Each segment at the places gets its new record, and all
 -- else stays. Assumes nothing.
-use Prim.Native.Nat.{ℕ, ◌+◌}
+use Prim.Native.Nat.{ℕ}
 use mathlib.Core.Path.{◌≡◌, refl, sym, ap, subst, ◌∙◌}
 use mathlib.Core.List.{List, [], ◌∷◌, ◌++◌, map}
 use lib.ListN.{length}

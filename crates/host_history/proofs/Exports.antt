@@ -7,7 +7,6 @@ use Rattle.serial.specs.Branch.{pick, pick-ap}
 use Rattle.ring.specs.Lists.{Lists}
 use Rattle.wire.specs.LittleEndian.{Octets}
 use Rattle.snd_ring.specs.Store.{Store, store_of}
-use Rattle.block.specs.declared.Kcp.{Kcp}
 use Rattle.block.specs.Fresh.{Lent}
 use Rattle.packing.specs.FlushAck.{Writing, writing}
 use Rattle.kcp_receive.specs.Calls.{move_buf_of, set_wndsize_of}

@@ -1,21 +1,20 @@
 -- What a host holds goes with the history of the block, from what a constructor leaves on. Assumes nothing.
 use Prim.Native.Nat.{ℕ, ◌<◌}
 use native.Mathlib.Omega.{arith}
-use mathlib.Core.Path.{◌≡◌, refl, sym, ap, ◌∙◌}
-use mathlib.Core.Bool.{Bool, true, false, ◌&&◌}
+use mathlib.Core.Path.{◌≡◌, refl}
+use mathlib.Core.Bool.{Bool, true, false}
 use mathlib.Core.List.{List, [], ◌∷◌}
 use lib.ListN.{length}
 use lib.Dec.{eqb}
-use Rattle.serial.specs.Branch.{pick, pick_true, pick-false}
+use Rattle.serial.specs.Branch.{pick}
 use Rattle.block.specs.declared.Kcp.{Kcp}
 use Rattle.block.specs.Fresh.{fresh, Lent, lent_sizes}
-use Rattle.block.specs.WellFormed.{OwnNumbers}
 use Rattle.receiving.proofs.Laws.{and_right}
 use Rattle.words.specs.Words.{bit, words_of, block_of, is_block}
-use Rattle.words.proofs.Back.{ShortNumbers, block_back}
+use Rattle.words.proofs.Back.{block_back}
 use Rattle.words.proofs.Tests.{exactly-block}
 use Rattle.host.specs.Words.{set_words, can_make, WordsMade}
-use Rattle.history.specs.Calls.{Call, Memory, lent_to, with_block, leaves}
+use Rattle.history.specs.Calls.{Call, Memory, lent_to, leaves}
 use Rattle.history.specs.History.{History, Turn, on_own, on_other, step, run, OwnOrRefused, begun, SoundCalls}
 use Rattle.history.proofs.History as calls
 use Rattle.host_history.specs.Words.{Held, lent_of, words_leave, step_words, run_words, HeldSound}

@@ -3,7 +3,7 @@ use Prim.Native.Nat.{ℕ, ◌<◌}
 use mathlib.Core.Path.{◌≡◌, sym, ap, ◌∙◌}
 use mathlib.Core.Bool.{Bool, true, false, not}
 use mathlib.Core.List.{List}
-use lib.ListN.{length, set}
+use lib.ListN.{set}
 use borrow.Author.Tests.{not-true, not-false}
 use Rattle.serial.specs.Branch.{pick, pick_true, pick-false}
 use Rattle.ring.specs.Lists.{Lists}

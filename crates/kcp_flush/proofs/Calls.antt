@@ -3,12 +3,12 @@ use Prim.Native.Nat.{ℕ, ◌*◌, ◌≤◌, ◌<◌, ◌^◌}
 use native.Mathlib.Omega.{arith}
 use mathlib.Core.Path.{◌≡◌, refl, sym, ap, ◌∙◌}
 use mathlib.Core.Bool.{Bool, true, false, not, ◌&&◌}
-use mathlib.Core.List.{List, [], map}
+use mathlib.Core.List.{List, []}
 use lib.ListN.{length}
 use borrow.Author.Tests.{not-true, not-false}
 use Rattle.serial.specs.Branch.{pick, pick_true, pick-false, pick-ap}
 use Rattle.ring.specs.Lists.{Lists}
-use Rattle.snd_ring.specs.Store.{Store, store_of, Sound}
+use Rattle.snd_ring.specs.Store.{store_of, Sound}
 use Rattle.block.specs.declared.Kcp.{Kcp}
 use Rattle.block.specs.declared.refusal.Refusal.TheVariants.{NeedUpdate, BadPool}
 use Rattle.block.specs.Refusals.{number_of_answer, values_of_answer}
@@ -21,7 +21,7 @@ use Rattle.transmit.specs.Fits.{send_lent, SendLent, send_fits}
 use Rattle.transmit.proofs.Exact.{lent-exactly, sound_of, exactly}
 use Rattle.flushing.specs.declared.clock.Tick.{Tick}
 use Rattle.flushing.specs.Clocks.{ticked}
-use Rattle.flushing.specs.Rules.{flushed_ack, flushed}
+use Rattle.flushing.specs.Rules.{flushed_ack}
 use Rattle.packing.specs.FlushAck.{Writing}
 use Rattle.output.specs.Memory.{outgoing, Out, unsent, FlushOut, flush_ack_at, flush_at, update_at, turn_at, check_at}
 use Rattle.output.proofs.Updates.{update-turn, flush-turn}

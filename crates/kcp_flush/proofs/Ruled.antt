@@ -2,17 +2,16 @@
 -- bytes. Assumes nothing.
 use Prim.Native.Nat.{ℕ, ◌+◌, ◌≤◌}
 use native.Mathlib.Omega.{arith}
-use mathlib.Core.Path.{◌≡◌, refl, sym, ap, ◌∙◌}
+use mathlib.Core.Path.{◌≡◌, refl}
 use mathlib.Core.Bool.{Bool, true, false}
 use mathlib.Core.List.{List, [], map, map-append}
 use lib.ListN.{length, take, drop, replicate, length-take}
 use lib.Seq.{take_at}
-use Rattle.serial.specs.Branch.{pick, pick_true, pick-false}
+use Rattle.serial.specs.Branch.{pick, pick_true}
 use Rattle.ring.specs.Lists.{Lists}
 use Rattle.ring.specs.Records.{put}
 use Rattle.snd_ring.specs.Store.{Store, store_of, Sound}
 use Rattle.block.specs.declared.Kcp.{Kcp}
-use Rattle.block.specs.declared.clock.Clock.{Clock}
 use Rattle.block.specs.declared.refusal.Refusal.{Refusal}
 use Rattle.block.specs.declared.refusal.Refusal.TheVariants.{NeedUpdate, OutTooSmall, BadPool}
 use Rattle.block.specs.Parts.{with_clock}
@@ -20,12 +19,12 @@ use Rattle.block.specs.WellFormed.{OwnNumbers}
 use Rattle.transmit.proofs.Exact.{sound_of}
 use Rattle.flushing.specs.Clocks.{ticked}
 use Rattle.flushing.specs.Pack.{flat}
-use Rattle.flushing.specs.Rules.{Outgoing, Flushed, Outcome, exceeds, refused, unless_exceeding, once_updated, on_clock, flushed_ack, flushed, flush_ack_rule, flush_rule, update_rule}
+use Rattle.flushing.specs.Rules.{Outgoing, Outcome, exceeds, refused, unless_exceeding, once_updated, flushed_ack, flushed, flush_ack_rule, flush_rule, update_rule}
 use Rattle.flushing.proofs.Packing.{AtMost, at_most_append, each-most, all_most}
 use Rattle.flushing.proofs.Calls.{ack-sizes}
 use Rattle.packing.specs.Acks.{acks_from, acks_of}
 use Rattle.packing.specs.Front.{front_pieces, front_sizes}
-use Rattle.packing.specs.FlushAck.{Writing, room_of, put_out}
+use Rattle.packing.specs.FlushAck.{Writing, room_of}
 use Rattle.packing.proofs.AckBytes.{each_alike}
 use Rattle.packing.proofs.Fronts.{front-sizes, front_each}
 use Rattle.flight.specs.Memory.{flight_places}
@@ -35,7 +34,7 @@ use Rattle.output.specs.Memory.{outgoing, told_of, plan_of, moved_at, segments_o
 use Rattle.output.proofs.Found.{moved-sound, sizes-found, lengths-found, flush-seen}
 use Rattle.kcp_flush.specs.Calls.{ack_fits, flush_fits, flush_ack_of, unflushed, flush_of, update_of}
 use Rattle.kcp_flush.specs.Ruled.{Ruled}
-use Rattle.kcp_flush.proofs.Calls.{ack-exactly, flush-exactly}
+use Rattle.kcp_flush.proofs.Calls.{flush-exactly}
 
 -- nothing was put
 put_none : (l : List ℕ) → l ≡ put l 0 []

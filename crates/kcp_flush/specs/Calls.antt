@@ -4,14 +4,14 @@
 use Rattle.std.specs.Prelude.{ℕ, ◌≡◌, Bool, true, ◌&&◌, List, [], ◌∷◌, map, length}
 use Rattle.serial.specs.Branch.{pick}
 use Rattle.ring.specs.Lists.{Lists}
-use Rattle.snd_ring.specs.Store.{Store, store_of}
+use Rattle.snd_ring.specs.Store.{store_of}
 use Rattle.block.specs.declared.Kcp.{Kcp}
 use Rattle.block.specs.declared.clock.Clock.{Clock}
 use Rattle.block.specs.declared.refusal.Refusal.{Refusal}
 use Rattle.block.specs.declared.refusal.Refusal.TheVariants.{NeedUpdate, BadPool}
 use Rattle.block.specs.Refusals.{number_of, values_of, number_of_answer, values_of_answer}
 use Rattle.block.specs.Parts.{with_clock}
-use Rattle.block.specs.WellFormed.{own_numbers, OwnNumbers, ack_lent}
+use Rattle.block.specs.WellFormed.{own_numbers, ack_lent}
 use Rattle.transmit.specs.Fits.{send_lent, send_fits}
 use Rattle.flushing.specs.declared.clock.Tick.{Tick}
 use Rattle.flushing.specs.Clocks.{ticked}

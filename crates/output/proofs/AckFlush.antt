@@ -1,17 +1,17 @@
 -- What `flush_ack` of the block makes of the packed acks, refused or sent. Assumes nothing.
 use Prim.Native.Nat.{ℕ, ◌≤◌}
 use native.Mathlib.Omega.{arith}
-use mathlib.Core.Path.{◌≡◌, refl, sym, ap, ◌∙◌}
+use mathlib.Core.Path.{◌≡◌, ap, ◌∙◌}
 use mathlib.Core.Bool.{Bool, true, false}
 use mathlib.Core.List.{List, map}
 use lib.ListN.{length, take, replicate}
 use lib.Seq.{length-take-le}
 use Rattle.serial.specs.Branch.{pick, pick-ap}
 use Rattle.block.specs.declared.Kcp.{Kcp}
-use Rattle.block.specs.declared.refusal.Answer.TheVariants.{Done, Refused}
+use Rattle.block.specs.declared.refusal.Answer.TheVariants.{Done}
 use Rattle.block.specs.declared.refusal.Refusal.TheVariants.{OutTooSmall}
 use Rattle.flushing.specs.declared.headers.Told.{Told}
-use Rattle.flushing.specs.Pack.{pack, pack_sizes}
+use Rattle.flushing.specs.Pack.{pack}
 use Rattle.flushing.specs.Rules.{exceeds}
 use Rattle.flushing.proofs.Packing.{pack-rest, rest-most}
 use Rattle.packing.specs.declared.flush_ack.Packed.{Packed}
@@ -20,7 +20,7 @@ use Rattle.packing.specs.Acks.{acks_of, ack_bytes}
 use Rattle.packing.specs.FlushAck.{Writing, room_of, put_out}
 use Rattle.packing.specs.FlushAck as packing
 use Rattle.packing.proofs.AckBytes.{each_alike, ack-sizes}
-use Rattle.output.specs.Memory.{Out, told_of, unsent, sent_off, acked, flush_ack_at}
+use Rattle.output.specs.Memory.{Out, told_of, unsent, acked, flush_ack_at}
 
 -- the outcome of the block, by that of the packing
 abbrev out_of : Kcp → Packed × Writing → Out

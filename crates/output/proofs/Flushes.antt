@@ -3,12 +3,12 @@ use Prim.Native.Nat.{ℕ, ◌+◌, ◌≤◌, ◌<◌, ◌^◌}
 use native.Mathlib.Omega.{arith}
 use mathlib.Core.Path.{◌≡◌, refl, sym, ap, ◌∙◌}
 use mathlib.Core.Bool.{Bool, true, false, ◌||◌}
-use mathlib.Core.List.{List, [], ◌++◌, map}
-use lib.ListN.{length, take, length-map}
+use mathlib.Core.List.{List, map}
+use lib.ListN.{length, length-map}
 use lib.Seq.{length-take-le}
 use lib.Dec.{ltb}
 use borrow.Author.Tests.{lt-ltb, le-ltb}
-use Rattle.serial.specs.Branch.{pick, pick_true, pick-false}
+use Rattle.serial.specs.Branch.{pick_true, pick-false}
 use Rattle.ring.specs.Records.{put}
 use Rattle.snd_ring.specs.Store.{Store, Sound}
 use Rattle.block.specs.declared.Kcp.{Kcp}
@@ -17,14 +17,14 @@ use Rattle.block.specs.declared.refusal.Answer.TheVariants.{Done}
 use Rattle.block.specs.declared.refusal.Refusal.TheVariants.{OutTooSmall}
 use Rattle.flushing.specs.declared.due.Tally.{Tally}
 use Rattle.flushing.specs.Pack.{flat, sum_of, pack_all_sizes}
-use Rattle.flushing.specs.Rules.{Outgoing, exceeds, flushed}
+use Rattle.flushing.specs.Rules.{exceeds, flushed}
 use Rattle.flushing.proofs.Packing.{length-flat, all-sum, all_none}
 use Rattle.packing.specs.declared.packer.Packer.{Packer}
 use Rattle.packing.specs.Packer.{holding, sized, closed}
 use Rattle.packing.specs.FlushAck.{Writing, writing, room_of}
 use Rattle.packing.proofs.Laying.{put_none}
 use Rattle.packing.proofs.Turns.{closed-start, closed-count}
-use Rattle.output.specs.Memory.{outgoing, unsent, sizes_at, pieces_at, moved_at, flown_store, tally_at, uncounted, Rear, written_at, FlushFits, settled_by, after_flush, FlushOut, flush_at}
+use Rattle.output.specs.Memory.{outgoing, unsent, sizes_at, pieces_at, moved_at, flown_store, uncounted, Rear, written_at, FlushFits, settled_by, after_flush, FlushOut, flush_at}
 use Rattle.output.proofs.Found.{sizes-found, bytes-found, lengths-found, settled-found}
 use Rattle.output.proofs.Still.{idle-written}
 

@@ -1,23 +1,21 @@
 -- What a flush finds in the memory is what the rules are asked of: its pieces, their sizes, what is counted, and what is seen afterwards. Assumes nothing.
-use Prim.Native.Nat.{ℕ, ◌+◌, ◌≤◌}
-use native.Mathlib.Omega.{arith}
+use Prim.Native.Nat.{ℕ, ◌≤◌}
 use mathlib.Core.Path.{◌≡◌, refl, sym, ap, ◌∙◌}
-use mathlib.Core.Bool.{Bool, true, false}
-use mathlib.Core.List.{List, [], ◌∷◌, ◌++◌, map, map-append, append_assoc}
-use lib.ListN.{length, take, replicate}
+use mathlib.Core.List.{List, ◌++◌, map, map-append, append_assoc}
+use lib.ListN.{length, take}
 use Rattle.snd_ring.specs.Store.{Store, Sound}
 use Rattle.block.specs.declared.Kcp.{Kcp}
 use Rattle.sending.specs.Rules.{Sending, with_flying}
 use Rattle.transmit.specs.Memory.{seen}
 use Rattle.flushing.specs.Pack.{flat, pack_all_sizes}
-use Rattle.flushing.specs.Pieces.{Piece, piece_bytes, ack_pieces, probe_pieces, due_pieces, tallied, sent_out}
+use Rattle.flushing.specs.Pieces.{piece_bytes, ack_pieces, probe_pieces, due_pieces, tallied, sent_out}
 use Rattle.flushing.specs.Rules.{Outgoing, moved_out, sent, tally, pieces_of, flushed}
 use Rattle.flushing.proofs.Packing.{all-sizes}
 use Rattle.flushing.proofs.Calls.{flush-joined}
 use Rattle.packing.specs.Acks.{acks_from, acks_of}
-use Rattle.packing.specs.Front.{front_pieces, front_sizes}
+use Rattle.packing.specs.Front.{front_pieces}
 use Rattle.packing.proofs.Fronts.{front-sizes, front-rule}
-use Rattle.flight.specs.Memory.{launched_sender, launched_at, flight_places, waiting_places, pieces_over, sizes_over, fresh_sizes, tally_over}
+use Rattle.flight.specs.Memory.{launched_sender, launched_at, flight_places, pieces_over}
 use Rattle.flight.proofs.Seen.{seen-moved, seen-flown, leaving-few, launched-sound}
 use Rattle.flight.proofs.Out.{pieces-seen, sizes-seen, tally-seen, sizes-launched}
 use Rattle.output.specs.Memory.{outgoing, told_of, plan_of, sizes_at, moved_at, flown_store, after_flush, pieces_at, uncounted, tally_at, settled_by}

@@ -1,8 +1,8 @@
 -- The segments of a flush: what their launch and their writing ask, and that what they leave is `rear_at`. Assumes nothing.
 use Prim.Native.Nat.{ℕ, ◌+◌, ◌≤◌, ◌<◌, ◌^◌}
 use native.Mathlib.Omega.{arith}
-use mathlib.Core.Path.{◌≡◌, refl, sym, ap, ◌∙◌, subst}
-use mathlib.Core.List.{List, [], map, ◌++◌}
+use mathlib.Core.Path.{◌≡◌, sym, ap, ◌∙◌, subst}
+use mathlib.Core.List.{List, [], map}
 use lib.ListN.{length, length-append}
 use Rattle.ring.specs.Lists.{lists}
 use Rattle.ring.specs.Records.{put}
@@ -19,11 +19,11 @@ use Rattle.flushing.proofs.Packing.{AtMost, length-flat, rest-most}
 use Rattle.packing.specs.declared.packer.Packer.{Packer}
 use Rattle.packing.specs.Packer.{sized}
 use Rattle.packing.proofs.Turns.{sized-sum, sized-count, sized-used, put_all}
-use Rattle.flight.specs.Memory.{flight_places, launched_at, pieces_over}
+use Rattle.flight.specs.Memory.{flight_places, pieces_over}
 use Rattle.flight.proofs.Seen.{flight_below, flight-fit}
 use Rattle.due.proofs.Writing.{pieces-most}
 use Rattle.due.specs.Pass.{Pass, pass, pass_over, Roomy}
-use Rattle.output.specs.Memory.{told_of, plan_of, moved_at, flown_store, segments_of, uncounted, tally_at, Rear, rear_at, RearFits}
+use Rattle.output.specs.Memory.{told_of, plan_of, moved_at, flown_store, segments_of, uncounted, tally_at, rear_at, RearFits}
 use Rattle.output.proofs.Found.{few, moved-sound}
 
 module _ (b : Kcp) (a room : List ℕ) (o : Sound 8 b.sender.ring (store_of 8 (lists a room))) where

@@ -1,10 +1,9 @@
 -- A flush of which nothing goes out, by its sizes: nothing leaves the queue, no memory changes, and nothing is counted. Assumes nothing.
-use Prim.Native.Nat.{ℕ, zero, suc, ◌+◌, ◌<◌, ◌^◌}
+use Prim.Native.Nat.{ℕ, ◌+◌, ◌<◌, ◌^◌}
 use native.Mathlib.Omega.{arith}
 use mathlib.Core.Path.{◌≡◌, refl, sym, ap, ◌∙◌}
 use mathlib.Core.List.{List, [], ◌∷◌, ◌++◌, map}
 use lib.ListN.{length, take}
-use Rattle.ring.specs.Records.{put}
 use Rattle.snd_ring.specs.Store.{Store, Sound}
 use Rattle.block.specs.declared.Kcp.{Kcp}
 use Rattle.transmit.specs.Memory.{Side, side}

@@ -1,8 +1,8 @@
 -- `turn`, by whether a flush is due, and `check`. Assumes nothing.
 use Prim.Native.Nat.{ℕ, ◌-◌, ◌^◌}
 use mathlib.Core.Path.{◌≡◌, refl, sym, ap, ◌∙◌}
-use mathlib.Core.Bool.{Bool, true, false, not}
-use mathlib.Core.List.{List, [], map}
+use mathlib.Core.Bool.{true, false, not}
+use mathlib.Core.List.{List, map}
 use borrow.Author.Tests.{not-true, not-false}
 use Rattle.serial.specs.Branch.{pick, pick_true, pick-false}
 use Rattle.ring.specs.Lists.{lists}

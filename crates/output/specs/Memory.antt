@@ -12,7 +12,7 @@ use Rattle.block.specs.declared.sender.Sender.{Sender}
 use Rattle.block.specs.declared.refusal.Answer.{Answer}
 use Rattle.block.specs.declared.refusal.Answer.TheVariants.{Done, Refused}
 use Rattle.block.specs.declared.refusal.Refusal.{Refusal}
-use Rattle.block.specs.declared.refusal.Refusal.TheVariants.{NeedUpdate, OutTooSmall}
+use Rattle.block.specs.declared.refusal.Refusal.TheVariants.{OutTooSmall}
 use Rattle.block.specs.Parts.{with_clock, with_congestion, with_probe, with_ack_list, with_sender}
 use Rattle.transmit.specs.Memory.{seen, Side}
 use Rattle.flushing.specs.declared.clock.Tick.{Tick}
@@ -27,7 +27,7 @@ use Rattle.flushing.specs.Rules.{Outgoing, exceeds, flushed, check_rule}
 use Rattle.packing.specs.declared.packer.Packer.{Packer}
 use Rattle.packing.specs.Acks.{acks_of, ack_bytes}
 use Rattle.packing.specs.Front.{front_pieces, front_sizes}
-use Rattle.packing.specs.FlushAck.{Writing, writing, room_of, put_out}
+use Rattle.packing.specs.FlushAck.{Writing, room_of, put_out}
 use Rattle.flight.specs.Memory.{flight_places, waiting_places, launched_at, flown_over, tally_over, pieces_over, sizes_over, fresh_sizes}
 use Rattle.output.specs.declared.Plan.{Plan}
 

@@ -1,5 +1,5 @@
 -- Laws of the receive side's rules: what a move and a store do to the held segments' order and places. Assumes nothing.
-use Prim.Native.Nat.{ℕ, suc, zero, ◌+◌, ◌^◌, ◌%◌, ◌<◌, ◌≤◌, zero-le, suc-le-suc}
+use Prim.Native.Nat.{ℕ, suc, zero, ◌+◌, ◌^◌, ◌%◌, ◌<◌, ◌≤◌}
 use native.Mathlib.Omega.{arith}
 use native.Mathlib.Nat.{not-suc-le-zero, le_of_suc-le-suc}
 use mathlib.Core.Path.{◌≡◌, refl, sym, ap, subst}

@@ -1,5 +1,5 @@
 -- The rules at work: 01's starred rows on a push, messages by their marks, the window setter, and a history that is computed. Assumes nothing.
-use Rattle.std.specs.Prelude.{ℕ, ◌<◌, ◌≡◌, refl, Bool, true, false, List, [], ◌∷◌}
+use Rattle.std.specs.Prelude.{ℕ, ◌≡◌, refl, Bool, true, false, List, [], ◌∷◌}
 use Rattle.serial.specs.Window.{distance, acknowledged}
 use Rattle.ring.specs.Sequences.{inserted}
 use Rattle.receiving.specs.Rules.{Segment, Receiving, ready, moved, move_buf, skipped, listed, is_held, reached, taken, nearer, insert, stored, push, message, sum, empty, expecting, gives, peeked, peek, unless_longer, recv_answer, given, freed, received, recv, tells, too_large, widened, set_window, fresh}

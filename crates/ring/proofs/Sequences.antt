@@ -6,7 +6,7 @@ use native.Mathlib.Omega.{arith}
 use native.Mathlib.Numerals.{add-one}
 use mathlib.Core.List.{List, [], ◌∷◌, ◌++◌, map}
 use lib.ListN.{length, take, drop, get_or, set, length-append, length-drop}
-use lib.Seq.{take-length, length-take-le, take-add, drop_at}
+use lib.Seq.{length-take-le, take-add, drop_at}
 use Rattle.ring.specs.Sequences.{removed, inserted}
 
 module _ {A : Type 0} where

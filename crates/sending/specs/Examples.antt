@@ -1,10 +1,8 @@
 -- The rules of the sending side on closed cases, each of which the Rust was seen to answer so. Assumes nothing.
-use Rattle.std.specs.Prelude.{ℕ, ◌+◌, ◌^◌, ◌≡◌, refl, Bool, true, false, List, [], ◌∷◌, map}
+use Rattle.std.specs.Prelude.{ℕ, ◌+◌, ◌^◌, ◌≡◌, refl, true, false, List, [], ◌∷◌}
 use Rattle.serial.specs.Branch.{pick}
-use Rattle.ring.specs.Sequences.{removed}
 use Rattle.sending.specs.declared.Flight.{Flight}
 use Rattle.sending.specs.declared.Latest.{Latest}
-use Rattle.sending.specs.declared.Window.{Window}
 use Rattle.sending.specs.Rules.{acknowledged_by, una_of, in_range, seek, meets, later, gains, fastack_of, counts, past_threshold, rounded_up, opened, cut_to, grown}
 use Rattle.sending.specs.Flights.{raise_first}
 

@@ -16,7 +16,6 @@ use Rattle.snd_ring.specs.Store.{Store, store_of}
 use Rattle.snd_ring.proofs.Marks.{by-live}
 use Rattle.snd_ring.proofs.Splits.{marks-length, mark-read}
 use Rattle.sending.specs.Rules.{stops}
-use Rattle.transmit.specs.declared.Sought.{Sought}
 use Rattle.transmit.specs.Memory.{sn, number_in, ends_at, ends_in, First, Ends}
 use Rattle.transmit.proofs.Numbers.{by_eq, onward_to, ends_none, ends-here, ends-stop, ends-room, number_is}
 

@@ -18,7 +18,7 @@ use Rattle.block.specs.Parts.{with_snd_ring, with_una}
 use Rattle.sending.specs.declared.Latest.{Latest}
 use Rattle.sending.specs.Rules.{acknowledged_by, una_of, in_range, found, counts}
 use Rattle.transmit.specs.declared.Sought.{Sought}
-use Rattle.transmit.specs.Memory.{sn, ts, flying_numbers, Side, side, shrunk_at, una_at, sought, Ends, removed_at, shrunk_side, ack_at, raised_from, fastack_at}
+use Rattle.transmit.specs.Memory.{sn, flying_numbers, Side, side, shrunk_at, una_at, sought, Ends, removed_at, shrunk_side, ack_at, raised_from, fastack_at}
 use Rattle.transmit.specs.Fits.{Lies}
 use Rattle.transmit.proofs.Numbers.{numbers-room, rows-room, una_none, una-front}
 use Rattle.transmit.proofs.Seen.{acknowledged-flying, una-sound, removed-sound, found-flying}

@@ -6,12 +6,10 @@ use native.Mathlib.Omega.{arith}
 use mathlib.Core.Bool.{Bool, true, false}
 use mathlib.Core.List.{List, [], ◌∷◌}
 use lib.Dec.{eqb}
-use lib.ListN.{length, drop, set, drop_of_length-le}
+use lib.ListN.{length, drop, drop_of_length-le}
 use lib.Seq.{drop-cons}
-use Rattle.estimator.specs.declared.Estimator.{Estimator}
-use Rattle.block.specs.declared.congestion.Congestion.{Congestion}
 use Rattle.block.specs.declared.Kcp.{Kcp}
-use Rattle.words.specs.Words.{bit, pair, flags_of, words_of, at, low, high, flag, block_of, is_block}
+use Rattle.words.specs.Words.{bit, pair, words_of, at, block_of, is_block}
 use Rattle.words.proofs.Tests.{exactly-block}
 
 -- ---- the block of a block's words

@@ -1,9 +1,8 @@
 -- What a write of all words leaves. Assumes nothing.
 use Prim.Native.Nat.{ℕ, ◌+◌, ◌*◌}
 use native.Mathlib.Omega.{arith}
-use native.Mathlib.Nat.{zero-add}
-use mathlib.Core.Path.{◌≡◌, refl}
-use mathlib.Core.List.{List, [], ◌++◌, append-nil}
+use mathlib.Core.Path.{◌≡◌}
+use mathlib.Core.List.{List, [], append-nil}
 use lib.ListN.{length, drop, drop_of_length-le}
 use Rattle.ring.specs.Records.{put, put_slot}
 

@@ -3,7 +3,6 @@
 -- whose other bits are 0. So any number is a block's, but for word 0. What every call that is handed memory tests comes first. Assumes nothing.
 use Rattle.std.specs.Prelude.{ℕ, ◌+◌, ◌*◌, ◌/◌, ◌%◌, Bool, true, false, ◌&&◌, List, [], ◌∷◌, ltb, eqb, length, get_or, set}
 use Rattle.estimator.specs.declared.Estimator.{Estimator}
-use Rattle.rcv_ring.specs.declared.RcvRing.{RcvRing}
 use Rattle.snd_ring.specs.declared.SndRing.{SndRing}
 use Rattle.block.specs.declared.settings.Settings.{Settings}
 use Rattle.block.specs.declared.clock.Clock.{Clock}

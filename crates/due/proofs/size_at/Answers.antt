@@ -1,8 +1,6 @@
 -- `due::size_at` meets its contract. Assumes nothing.
 use native.Mathlib.Omega.{arith}
 use mathlib.Core.Path.{sym, ◌∙◌}
-use borrow.Author.Tests.{not-true}
-use Prim.Native.Nat.{◌-◌}
 use Rattle.due.proofs.Sizing.{grows, size-idle, size-gap, size_one}
 use Rattle.std.proofs.Common.{ap}
 use Rattle.std.proofs.Common.{not}

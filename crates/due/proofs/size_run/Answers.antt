@@ -1,14 +1,10 @@
 -- `due::size_run` meets its contract. Assumes nothing.
 use native.Mathlib.Omega.{arith}
-use Prim.Native.Nat.{ℕ, ◌+◌, ◌-◌, ◌*◌, ◌≤◌}
-use mathlib.Core.Path.{◌≡◌, refl, sym, ◌∙◌}
-use mathlib.Core.List.{List}
+use Prim.Native.Nat.{ℕ, ◌≤◌}
+use mathlib.Core.Path.{refl, sym, ◌∙◌}
 use lib.ListN.{get_or}
 use Rattle.ring.specs.Lists.{lists}
 use Rattle.snd_ring.specs.Store.{store_of}
-use Rattle.packing.specs.Packer.{sized}
-use Rattle.flight.specs.Places.{run_of, Each}
-use Rattle.flight.specs.Memory.{sizes_over}
 use Rattle.flight.proofs.Places.{each_next}
 use Rattle.due.proofs.Sizing.{sizes-next, sizes-end}
 use Rattle.due.proofs.size_run.Goals as goal

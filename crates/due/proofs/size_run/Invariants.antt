@@ -1,7 +1,6 @@
 -- `due::size_run` meets its contract. Assumes nothing.
-use native.Mathlib.Omega.{arith}
 use Prim.Native.Nat.{ℕ, ◌+◌, ◌-◌, ◌*◌, ◌≤◌}
-use mathlib.Core.Path.{◌≡◌, refl, sym, ◌∙◌}
+use mathlib.Core.Path.{◌≡◌}
 use mathlib.Core.List.{List}
 use lib.ListN.{get_or}
 use Rattle.ring.specs.Lists.{lists}
@@ -9,8 +8,6 @@ use Rattle.snd_ring.specs.Store.{store_of}
 use Rattle.packing.specs.Packer.{sized}
 use Rattle.flight.specs.Places.{run_of, Each}
 use Rattle.flight.specs.Memory.{sizes_over}
-use Rattle.flight.proofs.Places.{each_next}
-use Rattle.due.proofs.Sizing.{sizes-next, sizes-end}
 use Rattle.due.proofs.size_run.Given as goal
 
 abbrev pub invariant-loop-q : goal.invariant-loop-q

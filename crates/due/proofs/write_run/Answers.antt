@@ -1,12 +1,10 @@
 -- `due::write_run` meets its contract. Assumes nothing.
 use native.Mathlib.Omega.{arith}
-use Prim.Native.Nat.{ℕ, ◌-◌, ◌/◌, ◌≤◌}
-use mathlib.Core.Path.{◌≡◌, refl, sym, ap, ◌∙◌}
-use lib.ListN.{length}
+use Prim.Native.Nat.{ℕ, ◌/◌}
+use mathlib.Core.Path.{refl, sym, ap, ◌∙◌}
 use Rattle.ring.specs.Lists.{lists}
 use Rattle.snd_ring.specs.Store.{store_of}
-use Rattle.flight.specs.Places.{run_of}
-use Rattle.due.specs.Pass.{pass, pass_over, Fits}
+use Rattle.due.specs.Pass.{pass}
 use Rattle.due.proofs.Writing.{run-first, run_fits, run_same, run-done}
 use Rattle.due.proofs.write_run.Goals as goal
 

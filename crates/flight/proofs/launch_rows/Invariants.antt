@@ -1,14 +1,12 @@
 -- `flight::launch_rows` meets its contract. Assumes nothing.
-use native.Mathlib.Omega.{arith}
-use Prim.Native.Nat.{ℕ, ◌+◌, ◌-◌, ◌/◌, ◌≤◌}
-use mathlib.Core.Path.{◌≡◌, refl, sym, ap, ◌∙◌}
+use Prim.Native.Nat.{ℕ, ◌+◌, ◌-◌, ◌≤◌}
+use mathlib.Core.Path.{◌≡◌}
 use mathlib.Core.List.{List}
 use lib.ListN.{length}
 use Rattle.ring.specs.Lists.{lists}
 use Rattle.snd_ring.specs.Store.{store_of}
 use Rattle.flight.specs.Places.{places_of}
 use Rattle.flight.specs.Memory.{launched_over}
-use Rattle.flight.proofs.Steps.{launch_all, launch-next, launch-end}
 use Rattle.flight.proofs.launch_rows.Given as goal
 
 abbrev pub invariant-loop-i : goal.invariant-loop-i

@@ -1,15 +1,12 @@
 -- `flight::tm_run` meets its contract. Assumes nothing.
-use native.Mathlib.Omega.{arith}
 use Prim.Native.Nat.{ℕ, ◌-◌, ◌≤◌}
-use mathlib.Core.Path.{◌≡◌, refl, sym, ap, ◌∙◌}
-use mathlib.Core.List.{List, []}
+use mathlib.Core.Path.{◌≡◌}
+use mathlib.Core.List.{List}
 use Rattle.ring.specs.Lists.{lists}
 use Rattle.snd_ring.specs.Store.{store_of}
 use Rattle.flushing.specs.Clocks.{tm_packet}
-use Rattle.flight.specs.declared.Reckoning.{Reckoning}
 use Rattle.flight.specs.Places.{run_of}
 use Rattle.flight.specs.Memory.{resendts_over, reckoned_of}
-use Rattle.flight.proofs.Steps.{tm-next, tm-end}
 use Rattle.flight.proofs.tm_run.Given as goal
 
 abbrev pub invariant-loop-q : goal.invariant-loop-q

@@ -1,6 +1,5 @@
 -- `input::adopt` meets its contract. Assumes nothing.
 use mathlib.Core.Path.{sym, ◌∙◌}
-use borrow.Author.Tests.{not-true, not-false}
 use Rattle.input.proofs.Judging.{adopted-not, adopted-other}
 use Rattle.input.proofs.adopt.Goals as goal
 

@@ -1,6 +1,5 @@
 -- `input::grown_by` meets its contract. Assumes nothing.
 use mathlib.Core.Path.{sym, ◌∙◌}
-use borrow.Author.Tests.{not-true, not-false}
 use Rattle.input.proofs.Effects.{grown-not, grown_yes}
 use Rattle.input.proofs.grown_by.Goals as goal
 

@@ -1,6 +1,5 @@
 -- `input::push` meets its contract. Assumes nothing.
 use Rattle.input.proofs.Effects.{skips-fit}
-use native.Mathlib.Omega.{arith}
 use Rattle.ring.specs.Lists.{lists}
 use Rattle.input.specs.Segment.{push_of}
 use Rattle.input.proofs.Effects.{push-skips, push-done}

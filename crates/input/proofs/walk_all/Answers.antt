@@ -1,11 +1,8 @@
 -- `input::walk_all` meets its contract. Assumes nothing.
 use native.Mathlib.Omega.{arith}
-use Prim.Native.Nat.{◌-◌}
-use mathlib.Core.Path.{◌≡◌, refl, ◌∙◌}
-use lib.ListN.{length}
+use mathlib.Core.Path.{refl, ◌∙◌}
 use Rattle.ring.specs.Lists.{lists}
-use Rattle.input.proofs.Segments.{met_by}
-use Rattle.input.proofs.Loop.{Going, going-first, in_datagram, few-skipped, next_in, going-ends, going-stops, less, going_on}
+use Rattle.input.proofs.Loop.{going-first, in_datagram, few-skipped, next_in, going-ends, going-stops, less, going_on}
 use Rattle.input.proofs.walk_all.Goals as goal
 
 pub loop-at-init : goal.loop-at-init

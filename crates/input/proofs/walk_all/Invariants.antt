@@ -1,11 +1,10 @@
 -- `input::walk_all` meets its contract. Assumes nothing.
-use native.Mathlib.Omega.{arith}
 use Prim.Native.Nat.{◌-◌}
-use mathlib.Core.Path.{◌≡◌, refl, ◌∙◌}
+use mathlib.Core.Path.{◌≡◌}
 use lib.ListN.{length}
 use Rattle.ring.specs.Lists.{lists}
 use Rattle.input.proofs.Segments.{met_by}
-use Rattle.input.proofs.Loop.{Going, going-first, in_datagram, few-skipped, next_in, going-ends, going-stops, less, going_on}
+use Rattle.input.proofs.Loop.{Going}
 use Rattle.input.proofs.walk_all.Given as goal
 
 abbrev pub invariant-loop-at : goal.invariant-loop-at

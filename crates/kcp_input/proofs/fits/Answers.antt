@@ -1,6 +1,5 @@
 -- `kcp_input::fits` meets its contract. Assumes nothing.
 use mathlib.Core.Path.{sym, ◌∙◌}
-use borrow.Author.Tests.{not-false}
 use Rattle.ring.specs.Lists.{lists}
 use Rattle.block.proofs.Exact.{own-numbers}
 use Rattle.kcp_input.proofs.Exact.{bad-own, bad-receive, bad-send, by-acks}

@@ -1,5 +1,4 @@
 -- `kcp_input::input` meets its contract. Assumes nothing.
-use borrow.Author.Tests.{not-false}
 use Rattle.ring.specs.Lists.{lists}
 use Rattle.snd_ring.specs.Store.{store_of}
 use Rattle.kcp_input.proofs.Exact.{fits-good, fits-lies, few-acks, some-mss}

@@ -1,5 +1,4 @@
 -- `kcp_receive::move_buf` meets its contract. Assumes nothing.
-use borrow.Author.Tests.{not-false}
 use Rattle.ring.specs.Lists.{lists}
 use Rattle.receive.proofs.Exact.{good-lies, own-receiver, fits-tested}
 use Rattle.kcp_receive.proofs.Outcomes.{unmoved, moved}

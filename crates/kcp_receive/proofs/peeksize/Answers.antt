@@ -1,5 +1,4 @@
 -- `kcp_receive::peeksize` meets its contract. Assumes nothing.
-use borrow.Author.Tests.{not-false}
 use Rattle.ring.specs.Lists.{lists}
 use Rattle.receive.proofs.Exact.{good-lies, own-receiver, fits-tested}
 use Rattle.kcp_receive.proofs.Outcomes.{unpeeked, peeks}

@@ -1,5 +1,4 @@
 -- `kcp_receive::recv` meets its contract. Assumes nothing.
-use borrow.Author.Tests.{not-false}
 use Rattle.ring.specs.Lists.{lists}
 use Rattle.receive.proofs.Exact.{own-receiver, fits-tested}
 use Rattle.kcp_receive.proofs.Outcomes.{unreceived, refuses, received}

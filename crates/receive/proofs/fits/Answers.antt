@@ -1,5 +1,4 @@
 -- `receive::fits` meets its contract: one test after the other. Assumes nothing.
-use borrow.Author.Tests.{not-false}
 use Rattle.ring.specs.Lists.{lists}
 use Rattle.receive.proofs.Exact.{bad-own, by-lent}
 use Rattle.std.proofs.Common.{ap}

@@ -2,7 +2,6 @@
 use native.Mathlib.Omega.{arith}
 use lib.ListN.{length}
 use mathlib.Core.Path.{sym, ◌∙◌}
-use borrow.Author.Tests.{not-true, not-false}
 use Rattle.block.proofs.Exact.{ring-sizes, receive-numbers}
 use Rattle.block.proofs.Together.{goes, stops}
 use Rattle.receive.specs.Fits.{receive_lent}

@@ -1,15 +1,11 @@
 -- `receive::message_of` meets its contract: i segments passed, and the rest of the queue is still to be counted. Assumes nothing.
-use native.Mathlib.Omega.{arith}
 use Prim.Native.Nat.{◌+◌, ◌-◌, ◌*◌, ◌≤◌}
-use native.Mathlib.Nat.{zero-add}
 use mathlib.Core.Path.{◌≡◌}
 use Rattle.ring.specs.Places.{summed}
-use Rattle.ring.proofs.Places.{summed-last}
 use Rattle.rcv_ring.specs.Places.{frg_at, size_at}
 use Rattle.rcv_ring.specs.Views.{span}
 use Rattle.receiving.specs.Rules.{message}
 use Rattle.receive.specs.Memory.{queue_frgs}
-use Rattle.receive.proofs.Fronts.{message_on, message-ends, message_none, spans_of}
 use Rattle.receive.proofs.message_of.Given as goal
 
 abbrev pub invariant-loop-i : goal.invariant-loop-i

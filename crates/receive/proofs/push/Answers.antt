@@ -1,6 +1,6 @@
 -- `receive::push` meets its contract. Assumes nothing.
 use mathlib.Core.Path.{sym, ◌∙◌}
-use borrow.Author.Tests.{le-leb, lt-leb, not-true, not-false}
+use borrow.Author.Tests.{le-leb, lt-leb}
 use Rattle.ring.specs.Lists.{lists}
 use Rattle.receive.proofs.Pushes.{pushed_none, pushed-skipped, pushed-old, pushed_in}
 use Rattle.receive.proofs.push.Goals as goal

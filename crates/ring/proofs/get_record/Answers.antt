@@ -1,11 +1,10 @@
 -- `ring::get_record` meets its contract. The first i numbers are read, and the rest are as they were. Assumes nothing.
 use native.Mathlib.Omega.{arith}
-use Prim.Native.Nat.{◌-◌, ◌*◌, ◌≤◌}
-use mathlib.Core.Path.{◌≡◌, refl}
+use Prim.Native.Nat.{◌*◌}
+use mathlib.Core.Path.{refl}
 use native.Mathlib.Nat.{add-zero}
 use lib.ListN.{length, length-set}
-use Rattle.ring.specs.Records.{part}
-use Rattle.ring.proofs.Sequences.{mixed, mixed_none}
+use Rattle.ring.proofs.Sequences.{mixed_none}
 use Rattle.ring.proofs.Rows.{get-turn, get-end}
 use Rattle.ring.proofs.get_record.Goals as goal
 

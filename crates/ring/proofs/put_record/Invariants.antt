@@ -1,11 +1,8 @@
 -- `ring::put_record` meets its contract. The first i numbers are written, and nothing else has changed. Assumes nothing.
-use native.Mathlib.Omega.{arith}
 use Prim.Native.Nat.{◌-◌, ◌*◌, ◌≤◌}
-use mathlib.Core.Path.{◌≡◌, refl}
-use native.Mathlib.Nat.{add-zero}
-use lib.ListN.{length, length-set}
-use lib.Seq.{paste, paste-zero}
-use Rattle.ring.proofs.Rows.{put-turn, put-end}
+use mathlib.Core.Path.{◌≡◌}
+use lib.ListN.{length}
+use lib.Seq.{paste}
 use Rattle.ring.proofs.put_record.Given as goal
 
 abbrev pub invariant-loop-i : goal.invariant-loop-i

@@ -1,9 +1,7 @@
 -- `ring::scan` meets its contract: the counts are those of the places before i. Assumes nothing.
 use native.Mathlib.Omega.{arith}
-use Prim.Native.Nat.{◌-◌, ◌≤◌}
 use mathlib.Core.Path.{◌≡◌}
 use lib.ListN.{get_or}
-use Rattle.ring.specs.Counting.{count_in}
 use Rattle.ring.proofs.Counting.{least_le, in_none, in_more}
 use Rattle.ring.proofs.scan.Goals as goal
 

@@ -1,6 +1,5 @@
 -- `send::fills` meets its contract. Assumes nothing.
 use mathlib.Core.Path.{sym}
-use borrow.Author.Tests.{not-true, not-false}
 use native.Mathlib.Omega.{arith}
 use Rattle.send.proofs.Numbers.{fills_plain, fills-some, fills-zero}
 use Rattle.send.proofs.fills.Goals as goal

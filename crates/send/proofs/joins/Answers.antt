@@ -1,7 +1,6 @@
 -- `send::joins` meets its contract. Assumes nothing.
 use native.Mathlib.Omega.{arith}
 use mathlib.Core.Path.{sym, ◌∙◌}
-use borrow.Author.Tests.{not-true, not-false}
 use Rattle.send.proofs.Numbers.{fills_facts, joins_none, joins-some}
 use Rattle.send.proofs.joins.Goals as goal
 

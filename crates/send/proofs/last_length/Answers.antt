@@ -1,8 +1,6 @@
 -- `send::last_length` meets its contract. Assumes nothing.
 use native.Mathlib.Omega.{arith}
-use mathlib.Core.Logic.{⊎_elim}
 use Rattle.send.proofs.Steps.{last_by}
-use borrow.Author.Rules.{rules}
 use Rattle.send.proofs.last_length.Goals as goal
 use Rattle.send.proofs.last_length.Goals.{then-n-eq0, else-n-eq0}
 

@@ -4,7 +4,7 @@ use Rattle.ring.specs.Lists.{lists}
 use Rattle.snd_ring.specs.Store.{store_of}
 use Rattle.snd_ring.proofs.Splits.{marks-length, same-lengths}
 use Rattle.send.specs.Memory.{laid}
-use Rattle.send.proofs.Steps.{Turn, turn-first, turn-next, turn_last, turn-needs}
+use Rattle.send.proofs.Steps.{turn-first, turn-next, turn_last, turn-needs}
 use Rattle.send.proofs.queue.Goals as goal
 
 pub loop-left-init : goal.loop-left-init

@@ -1,10 +1,8 @@
 -- `send::queue` meets its contract: the pieces that are left, queued on the memory as it is, give what all of them give. Assumes nothing.
-use native.Mathlib.Omega.{arith}
 use Rattle.ring.specs.Lists.{lists}
 use Rattle.snd_ring.specs.Store.{store_of}
-use Rattle.snd_ring.proofs.Splits.{marks-length, same-lengths}
 use Rattle.send.specs.Memory.{laid}
-use Rattle.send.proofs.Steps.{Turn, turn-first, turn-next, turn_last, turn-needs}
+use Rattle.send.proofs.Steps.{Turn}
 use Rattle.send.proofs.queue.Given as goal
 
 abbrev pub invariant-loop-left : goal.invariant-loop-left

@@ -1,6 +1,6 @@
 -- `serial::acknowledged` meets its contract. In the window, or 2^31 and the window past it. Assumes nothing.
 use Rattle.serial.proofs.Push.{leb_past}
-use Rattle.std.proofs.Common.{◌^◌, rules, le-ltb, lt-ltb}
+use Rattle.std.proofs.Common.{◌^◌, le-ltb, lt-ltb}
 use Rattle.serial.proofs.acknowledged.Goals as goal
 
 pub returns-then-d-rcv_wnd : goal.returns-then-d-rcv_wnd

@@ -1,5 +1,5 @@
 -- `serial::after` meets its contract. The test of 0 first, then that of 2^31. Assumes nothing.
-use Rattle.std.proofs.Common.{rules, le-ltb, lt-ltb}
+use Rattle.std.proofs.Common.{le-ltb, lt-ltb}
 use Rattle.serial.proofs.after.Goals as goal
 
 pub returns-then-past-gt0 : goal.returns-then-past-gt0

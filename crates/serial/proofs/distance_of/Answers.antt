@@ -1,5 +1,4 @@
 -- `serial::distance_of` meets its contract. What `sub` ensures. Assumes nothing.
-use Rattle.std.proofs.Common.{rules}
 use Rattle.serial.specs.Window.{distance}
 use Rattle.serial.proofs.distance_of.Goals as goal
 

@@ -1,5 +1,4 @@
 -- `serial::in_window` meets its contract. What `distance_of` ensures. Assumes nothing.
-use Rattle.std.proofs.Common.{rules}
 use Rattle.serial.proofs.in_window.Goals as goal
 
 pub returns : goal.returns

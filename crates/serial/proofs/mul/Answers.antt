@@ -1,6 +1,5 @@
 -- `serial::mul` meets its contract. The whole product of two u32 fits a u64. Assumes nothing.
 use Rattle.serial.proofs.Wrapping.{product-fits}
-use Rattle.std.proofs.Common.{rules}
 use Rattle.serial.proofs.mul.Goals as goal
 
 pub overflow_mul-wide : goal.overflow_mul-wide

@@ -1,5 +1,5 @@
 -- `serial::mul64` meets its contract. The products of the halves fit, and are put together by `product_by-halves`. Assumes nothing.
-use Rattle.std.proofs.Common.{sym, ◌∙◌, arith, rules}
+use Rattle.std.proofs.Common.{sym, ◌∙◌, arith}
 use Rattle.serial.proofs.Wrapping.{product-fits, product_by-halves}
 use Rattle.serial.proofs.mul64.Goals as goal
 

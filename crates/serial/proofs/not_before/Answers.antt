@@ -1,5 +1,4 @@
 -- `serial::not_before` meets its contract. What `sub` ensures. Assumes nothing.
-use Rattle.std.proofs.Common.{rules}
 use Rattle.serial.proofs.not_before.Goals as goal
 
 pub returns : goal.returns

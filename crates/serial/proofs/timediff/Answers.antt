@@ -1,5 +1,5 @@
 -- `serial::timediff` meets its contract. Below 2^31 the bits are the number; from there on it is −1 less what is missing to 2^32 − 1. Assumes nothing.
-use Rattle.std.proofs.Common.{◌-◌, ap, ◌∙◌, arith, rules}
+use Rattle.std.proofs.Common.{◌-◌, ap, ◌∙◌, arith}
 use Rattle.serial.specs.Wrap.{signed32}
 use Rattle.serial.proofs.Sign.{minus-fits, signed_low, signed_high}
 use Rattle.serial.proofs.timediff.Goals as goal

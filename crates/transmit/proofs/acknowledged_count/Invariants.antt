@@ -1,16 +1,12 @@
 -- `transmit::acknowledged_count` meets its contract: n are counted, and what is left from index i on is still to be counted. Assumes nothing.
-use native.Mathlib.Omega.{arith}
 use Prim.Native.Nat.{◌+◌, ◌-◌, ◌≤◌}
-use mathlib.Core.Path.{◌≡◌, sym, ap, ◌∙◌}
+use mathlib.Core.Path.{◌≡◌}
 use mathlib.Core.List.{[]}
-use mathlib.Core.Logic.{⊎_elim}
-use borrow.Author.Tests.{not-true, not-false}
-use Rattle.serial.specs.Wrap.{after}
 use Rattle.ring.specs.Lists.{lists}
 use Rattle.snd_ring.specs.Store.{store_of}
 use Rattle.sending.specs.Rules.{acknowledged_by}
 use Rattle.transmit.specs.Memory.{flying_numbers}
-use Rattle.transmit.proofs.Numbers.{left_all, left-gap, mark_is, number_is, numbers-room, more, counts_end, counts_on, counts-stop}
+use Rattle.transmit.proofs.Numbers.{more}
 use Rattle.transmit.proofs.acknowledged_count.Given as goal
 
 abbrev pub invariant-loop-i : goal.invariant-loop-i

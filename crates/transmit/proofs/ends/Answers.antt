@@ -1,5 +1,4 @@
 -- `transmit::ends` meets its contract. Assumes nothing.
-use mathlib.Core.Path.{sym}
 use borrow.Author.Tests.{eq-eqb, ne_eqb}
 use Rattle.transmit.proofs.ends.Goals as goal
 

@@ -1,13 +1,11 @@
 -- `transmit::gathered` meets its contract: the first i are gathered. Assumes nothing.
-use native.Mathlib.Omega.{arith}
 use Prim.Native.Nat.{◌-◌, ◌≤◌}
-use mathlib.Core.Path.{◌≡◌, refl, ◌∙◌}
+use mathlib.Core.Path.{◌≡◌}
 use mathlib.Core.List.{[]}
-use lib.ListN.{length, length-set}
+use lib.ListN.{length}
 use Rattle.ring.specs.Lists.{lists}
 use Rattle.snd_ring.specs.Store.{store_of}
 use Rattle.transmit.specs.Portions.{Gathered}
-use Rattle.transmit.proofs.Portions.{gathered_more}
 use Rattle.transmit.proofs.gathered.Given as goal
 
 abbrev pub invariant-loop-i : goal.invariant-loop-i

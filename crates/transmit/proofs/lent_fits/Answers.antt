@@ -4,7 +4,6 @@ use native.Mathlib.Omega.{arith}
 use mathlib.Core.Path.{sym, ap, ◌∙◌}
 use mathlib.Core.List.{[]}
 use lib.ListN.{length}
-use borrow.Author.Tests.{not-true, not-false}
 use Rattle.ring.specs.Lists.{lists}
 use Rattle.snd_ring.specs.Store.{marks_fit}
 use Rattle.snd_ring.proofs.Splits.{marks-length, part-marks}

@@ -1,12 +1,9 @@
 -- `transmit::put_back` meets its contract: what is left to write from record i on is the whole. Assumes nothing.
 use native.Mathlib.Omega.{arith}
-use Prim.Native.Nat.{ℕ, ◌-◌, ◌/◌, ◌≤◌}
-use mathlib.Core.Path.{◌≡◌, refl, sym, ap, ◌∙◌}
-use mathlib.Core.List.{List}
-use lib.ListN.{length}
+use Prim.Native.Nat.{ℕ, ◌/◌}
+use mathlib.Core.Path.{refl, sym, ap, ◌∙◌}
 use Rattle.ring.specs.Lists.{lists}
 use Rattle.snd_ring.specs.Store.{store_of}
-use Rattle.transmit.specs.Portions.{put_back}
 use Rattle.transmit.proofs.Portions.{back_all, back_more, back_end}
 use Rattle.transmit.proofs.put_back.Goals as goal
 

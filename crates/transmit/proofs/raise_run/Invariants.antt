@@ -1,13 +1,11 @@
 -- `transmit::raise_run` meets its contract: what is left of the run from q on is the whole. Assumes nothing.
-use native.Mathlib.Omega.{arith}
-use Prim.Native.Nat.{ℕ, ◌-◌, ◌/◌, ◌≤◌}
-use mathlib.Core.Path.{◌≡◌, refl, sym, ap, ◌∙◌}
+use Prim.Native.Nat.{ℕ, ◌-◌, ◌≤◌}
+use mathlib.Core.Path.{◌≡◌}
 use mathlib.Core.List.{List}
 use lib.ListN.{length}
 use Rattle.ring.specs.Lists.{lists}
 use Rattle.snd_ring.specs.Store.{store_of}
 use Rattle.transmit.specs.Portions.{raised_run}
-use Rattle.transmit.proofs.Portions.{run_more, run_end}
 use Rattle.transmit.proofs.raise_run.Given as goal
 
 abbrev pub invariant-loop-q : goal.invariant-loop-q

@@ -1,10 +1,6 @@
 -- `transmit::seek_run` meets its contract: the places before q are passed. Assumes nothing.
 use native.Mathlib.Omega.{arith}
-use Prim.Native.Nat.{ℕ, ◌-◌, ◌≤◌, ◌<◌}
-use mathlib.Core.Path.{◌≡◌}
-use mathlib.Core.Bool.{false}
 use mathlib.Core.List.{[]}
-use mathlib.Core.Logic.{⊎_elim}
 use Rattle.ring.specs.Lists.{lists}
 use Rattle.snd_ring.specs.Store.{store_of}
 use Rattle.transmit.specs.Memory.{ends_at}

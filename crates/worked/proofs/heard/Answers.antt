@@ -1,6 +1,5 @@
 -- `worked::heard` meets its contract. What the call ensures. Assumes nothing.
 use mathlib.Core.Path.{ap}
-use Rattle.block.specs.declared.refusal.Bytes.{Bytes}
 use Rattle.input.specs.Datagram.{ReadOut}
 use Rattle.worked.proofs.heard.Goals as goal
 

@@ -1,5 +1,4 @@
 -- `block::sizes::ring_sizes` meets its contract. A count of slots within the limits makes small products. Assumes nothing.
-use Prim.Native.Nat.{◌≤◌, ◌*◌}
 use native.Mathlib.Nat.{mul-le-mul}
 use native.Mathlib.Omega.{arith}
 use mathlib.Core.Path.{sym, ◌∙◌}

@@ -1,7 +1,6 @@
 -- `flushing::clock::tm_flush` meets its contract. Assumes nothing.
 use mathlib.Core.Path.{sym, ◌∙◌}
 use Rattle.flushing.proofs.Choices.{flush-due, flush-later, flush-first}
-use Rattle.flushing.specs.Clocks.{restarted}
 use Rattle.flushing.proofs.clock.tm_flush.Goals as goal
 
 pub returns-then-not_before : goal.returns-then-not_before

@@ -3,7 +3,7 @@ use mathlib.Core.Path.{sym, ◌∙◌}
 use borrow.Author.Tests.{eq-eqb, ne_eqb}
 use Rattle.serial.specs.Branch.{pick_true, pick-false}
 use Rattle.flushing.proofs.Choices.{no-short-wait, asks-again}
-use Rattle.flushing.specs.Probing.{armed, probed}
+use Rattle.flushing.specs.Probing.{probed}
 use Rattle.flushing.proofs.probing.probed.Goals as goal
 
 pub returns-then-wait-eq0 : goal.returns-then-wait-eq0

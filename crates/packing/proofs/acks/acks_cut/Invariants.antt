@@ -1,14 +1,10 @@
 -- `acks_cut` meets its contract: a turn for each ack. Assumes nothing.
 use Prim.Native.Nat.{◌-◌, ◌≤◌}
-use mathlib.Core.Path.{refl}
-use native.Mathlib.Omega.{arith}
 use lib.ListN.{replicate}
 use Rattle.ring.specs.Records.{put}
 use Rattle.flushing.specs.Pack.{pack_sizes}
 use Rattle.packing.specs.Packer.{sized}
-use Rattle.packing.proofs.Laying.{laying-kept}
-use Rattle.packing.proofs.Turns.{Cutting, cutting-start, going-within, cutting-fits, cutting_on, cutting-end}
-use Rattle.packing.proofs.AckBytes.{each_alike, total_alike, alike_all, alike_next, alike_none}
+use Rattle.packing.proofs.Turns.{Cutting}
 use Rattle.packing.proofs.acks.acks_cut.Given as goal
 
 abbrev pub invariant-loop-i : goal.invariant-loop-i

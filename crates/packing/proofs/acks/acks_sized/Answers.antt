@@ -1,10 +1,9 @@
 -- `acks_sized` meets its contract: a turn for each ack. Assumes nothing.
-use Prim.Native.Nat.{ℕ, ◌-◌, ◌≤◌}
+use Prim.Native.Nat.{ℕ}
 use mathlib.Core.Path.{refl}
 use native.Mathlib.Omega.{arith}
 use lib.ListN.{replicate, length-replicate}
-use Rattle.packing.specs.Packer.{sized}
-use Rattle.packing.proofs.Turns.{Going, going_start, going-within, going_on, going_end}
+use Rattle.packing.proofs.Turns.{going_start, going-within, going_on, going_end}
 use Rattle.packing.proofs.AckBytes.{each_alike, total_alike, alike_all, alike_next, alike_none}
 use Rattle.packing.proofs.acks.acks_sized.Goals as goal
 

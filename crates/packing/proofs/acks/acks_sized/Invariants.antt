@@ -1,11 +1,8 @@
 -- `acks_sized` meets its contract: a turn for each ack. Assumes nothing.
-use Prim.Native.Nat.{ℕ, ◌-◌, ◌≤◌}
-use mathlib.Core.Path.{refl}
-use native.Mathlib.Omega.{arith}
-use lib.ListN.{replicate, length-replicate}
+use Prim.Native.Nat.{◌-◌, ◌≤◌}
+use lib.ListN.{replicate}
 use Rattle.packing.specs.Packer.{sized}
-use Rattle.packing.proofs.Turns.{Going, going_start, going-within, going_on, going_end}
-use Rattle.packing.proofs.AckBytes.{each_alike, total_alike, alike_all, alike_next, alike_none}
+use Rattle.packing.proofs.Turns.{Going}
 use Rattle.packing.proofs.acks.acks_sized.Given as goal
 
 abbrev pub invariant-loop-i : goal.invariant-loop-i

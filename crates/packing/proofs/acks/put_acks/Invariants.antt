@@ -1,12 +1,9 @@
 -- `put_acks` meets its contract: a header for each pair. Assumes nothing.
 use Prim.Native.Nat.{◌-◌, ◌≤◌}
-use mathlib.Core.Path.{refl}
-use native.Mathlib.Omega.{arith}
 use Rattle.ring.specs.Records.{put}
 use Rattle.flushing.specs.Pack.{flat}
 use Rattle.packing.specs.Acks.{acks_from, ack_bytes}
-use Rattle.packing.proofs.Laying.{Laying, laying-start, laying-kept, laying-end}
-use Rattle.packing.proofs.AckBytes.{acks-length, acks_none, acks_on}
+use Rattle.packing.proofs.Laying.{Laying}
 use Rattle.packing.proofs.acks.put_acks.Given as goal
 
 abbrev pub invariant-loop-i : goal.invariant-loop-i

@@ -1,5 +1,5 @@
 -- `front_put` meets its contract: what waits, the acks, the ask and the tell are put in turn. Assumes nothing.
-use mathlib.Core.Path.{◌≡◌, refl, sym, ap, ◌∙◌}
+use mathlib.Core.Path.{ap}
 use native.Mathlib.Omega.{arith}
 use Rattle.wire.specs.Commands.{ask, tell}
 use Rattle.flushing.specs.Probing.{ask_set, tell_set}

@@ -1,5 +1,5 @@
 -- `front_sized` meets its contract: the acks, the ask and the tell are taken in turn. Assumes nothing.
-use mathlib.Core.Path.{◌≡◌, refl, sym, ap, ◌∙◌}
+use mathlib.Core.Path.{ap}
 use native.Mathlib.Omega.{arith}
 use Rattle.flushing.specs.Probing.{ask_set, tell_set}
 use Rattle.packing.specs.declared.packer.Packer.{Packer}

@@ -5,7 +5,6 @@ use native.Mathlib.Omega.{arith}
 use lib.ListN.{length}
 use Rattle.ring.proofs.Rows.{by_copy}
 use Rattle.packing.proofs.AckBytes.{probe-needs, probe-done, probe-skip}
-use borrow.Author.Rules.{rules}
 use Rattle.packing.proofs.probes.probe_put.Goals as goal
 
 pub copy-requires : goal.copy-requires

@@ -1,5 +1,4 @@
 -- `recorded::answers::of_length` meets its contract. Either answer. Assumes nothing.
-use Rattle.std.proofs.Common.{rules}
 use Rattle.recorded.proofs.answers.of_length.Goals as goal
 
 pub refused_by-requires : goal.refused_by-requires

@@ -1,5 +1,4 @@
 -- `recorded::answers::of_out` meets its contract. Either answer. Assumes nothing.
-use Rattle.std.proofs.Common.{rules}
 use Rattle.recorded.proofs.answers.of_out.Goals as goal
 
 pub wide-requires : goal.wide-requires

@@ -1,5 +1,4 @@
 -- `recorded::answers::of_put` meets its contract. Either answer. Assumes nothing.
-use Rattle.std.proofs.Common.{rules}
 use Rattle.recorded.proofs.answers.of_put.Goals as goal
 
 pub returns-in-Done : goal.returns-in-Done

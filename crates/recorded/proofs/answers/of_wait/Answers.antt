@@ -1,5 +1,4 @@
 -- `recorded::answers::of_wait` meets its contract. Either answer. Assumes nothing.
-use Rattle.std.proofs.Common.{rules}
 use Rattle.recorded.proofs.answers.of_wait.Goals as goal
 
 pub wide-requires : goal.wide-requires

@@ -1,5 +1,4 @@
 -- `recorded::calls::by_input` meets its contract. What the call ensures. Assumes nothing.
-use Rattle.std.proofs.Common.{rules}
 use Rattle.recorded.proofs.calls.by_input.Goals as goal
 
 pub returns : goal.returns

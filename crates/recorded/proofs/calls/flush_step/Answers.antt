@@ -1,6 +1,5 @@
 -- `recorded::calls::flush_step` meets its contract. What the calls ensure. Assumes nothing.
 use Rattle.recorded.proofs.Making.{flushed-out}
-use Rattle.std.proofs.Common.{rules}
 use Rattle.recorded.proofs.calls.flush_step.Goals as goal
 
 pub zeros_16384-out-requires : goal.zeros_16384-out-requires

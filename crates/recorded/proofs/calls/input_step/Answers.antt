@@ -1,6 +1,5 @@
 -- `recorded::calls::input_step` meets its contract. What the calls ensure. Assumes nothing.
 use Rattle.recorded.proofs.Making.{inputs}
-use Rattle.std.proofs.Common.{rules}
 use Rattle.recorded.proofs.calls.input_step.Goals as goal
 
 pub by_input-requires : goal.by_input-requires

@@ -1,6 +1,5 @@
 -- `recorded::calls::send_in` meets its contract. What the calls ensure. Assumes nothing.
 use Rattle.recorded.proofs.Making.{sends_in}
-use Rattle.std.proofs.Common.{rules}
 use Rattle.recorded.proofs.calls.send_in.Goals as goal
 
 pub by_send-requires : goal.by_send-requires

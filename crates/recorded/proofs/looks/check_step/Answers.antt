@@ -1,5 +1,4 @@
 -- `recorded::looks::check_step` meets its contract. What the calls ensure. Assumes nothing.
-use Rattle.std.proofs.Common.{rules}
 use Rattle.recorded.proofs.looks.check_step.Goals as goal
 
 pub of_wait-requires : goal.of_wait-requires

@@ -1,6 +1,5 @@
 -- `recorded::looks::fresh` meets its contract. Plain or stream, by the test. Assumes nothing.
 use Rattle.recorded.proofs.Looking.{fresh-plain, fresh-stream}
-use Rattle.std.proofs.Common.{rules}
 use Rattle.recorded.proofs.looks.fresh.Goals as goal
 
 pub returns-then-row-eq0 : goal.returns-then-row-eq0

@@ -1,6 +1,5 @@
 -- `recorded::looks::getting_step` meets its contract. What the calls ensure. Assumes nothing.
 use Rattle.recorded.proofs.Looking.{got_all}
-use Rattle.std.proofs.Common.{rules}
 use Rattle.recorded.proofs.looks.getting_step.Goals as goal
 
 pub gotten-all-requires : goal.gotten-all-requires

@@ -1,5 +1,5 @@
 -- `recorded::looks::gotten` meets its contract. What every getter ensures. Assumes nothing.
-use Rattle.std.proofs.Common.{refl, rules}
+use Rattle.std.proofs.Common.{refl}
 use Rattle.recorded.proofs.Looking.{gotten_are}
 use Rattle.recorded.proofs.looks.gotten.Goals as goal
 

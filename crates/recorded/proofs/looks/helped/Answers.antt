@@ -1,6 +1,6 @@
 -- `recorded::looks::helped` meets its contract. Each helper by its code. Assumes nothing.
 use Rattle.recorded.proofs.Looking.{helped-conv, helped-put, helped-sn, helped_none}
-use Rattle.std.proofs.Common.{rules, arith}
+use Rattle.std.proofs.Common.{arith}
 use Rattle.recorded.proofs.looks.helped.Goals as goal
 
 pub of_number-requires : goal.of_number-requires

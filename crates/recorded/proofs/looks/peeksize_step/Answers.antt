@@ -1,5 +1,4 @@
 -- `recorded::looks::peeksize_step` meets its contract. What the calls ensure. Assumes nothing.
-use Rattle.std.proofs.Common.{rules}
 use Rattle.recorded.proofs.looks.peeksize_step.Goals as goal
 
 pub of_length-requires : goal.of_length-requires

@@ -1,5 +1,5 @@
 -- `recorded::looks::put` meets its contract. Either side of the test; the part that is lent is as long as the bytes. Assumes nothing.
-use Rattle.std.proofs.Common.{sym, arith, length-take-le, rules}
+use Rattle.std.proofs.Common.{sym, arith, length-take-le}
 use Rattle.recorded.proofs.Looking.{put-long, put-fits}
 use Rattle.recorded.proofs.looks.put.Goals as goal
 

@@ -1,6 +1,5 @@
 -- `recorded::looks::put_in` meets its contract. The copy is the bytes, and then the call has them. Assumes nothing.
 use Rattle.recorded.proofs.Looking.{put-made}
-use Rattle.std.proofs.Common.{rules}
 use Rattle.recorded.proofs.looks.put_in.Goals as goal
 
 pub sum_of_bytes-requires : goal.sum_of_bytes-requires

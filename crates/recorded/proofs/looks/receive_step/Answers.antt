@@ -1,6 +1,5 @@
 -- `recorded::looks::receive_step` meets its contract. Each call by its code. Assumes nothing.
 use Rattle.recorded.proofs.Looking.{receives, peeks, moves, sets-windows}
-use Rattle.std.proofs.Common.{rules}
 use Rattle.recorded.proofs.looks.receive_step.Goals as goal
 
 pub wide-requires : goal.wide-requires

@@ -1,6 +1,5 @@
 -- `recorded::looks::recv_in` meets its contract. What the calls ensure. Assumes nothing.
 use Rattle.recorded.proofs.Looking.{recv-made}
-use Rattle.std.proofs.Common.{rules}
 use Rattle.recorded.proofs.looks.recv_in.Goals as goal
 
 pub sum_of_bytes-requires : goal.sum_of_bytes-requires

@@ -1,5 +1,5 @@
 -- `recorded::looks::recv_step` meets its contract. Either side of the test; the part that is lent is as long as the step says. Assumes nothing.
-use Rattle.std.proofs.Common.{sym, arith, length-take-le, rules}
+use Rattle.std.proofs.Common.{sym, arith, length-take-le}
 use Rattle.recorded.proofs.Looking.{recv-long, recv-fits}
 use Rattle.recorded.proofs.looks.recv_step.Goals as goal
 

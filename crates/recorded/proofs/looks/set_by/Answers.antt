@@ -1,5 +1,5 @@
 -- `recorded::looks::set_by` meets its contract. Each setter by its code. Assumes nothing.
-use Rattle.std.proofs.Common.{◌≡◌, sym, ◌∙◌, rules, arith}
+use Rattle.std.proofs.Common.{◌≡◌, sym, ◌∙◌, arith}
 use Rattle.serial.specs.Branch.{pick}
 use Rattle.recorded.specs.Looks.{set_by}
 use Rattle.recorded.proofs.Branches.{other}

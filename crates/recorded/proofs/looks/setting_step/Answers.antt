@@ -1,6 +1,5 @@
 -- `recorded::looks::setting_step` meets its contract. Either side of the test. Assumes nothing.
 use Rattle.recorded.proofs.Looking.{set-mtu, set_any}
-use Rattle.std.proofs.Common.{rules}
 use Rattle.recorded.proofs.looks.setting_step.Goals as goal
 
 pub wide-requires : goal.wide-requires

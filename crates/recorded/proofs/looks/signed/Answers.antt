@@ -1,5 +1,5 @@
 -- `recorded::looks::signed` meets its contract. Below 2^31 the bits are the number; from there on it is −1 less what is missing to 2^32 − 1. Assumes nothing.
-use Rattle.std.proofs.Common.{◌-◌, arith, rules}
+use Rattle.std.proofs.Common.{◌-◌, arith}
 use Rattle.serial.proofs.Sign.{minus-fits, signed_low, signed_high}
 use Rattle.recorded.proofs.looks.signed.Goals as goal
 

@@ -1,6 +1,5 @@
 -- `recorded::looks::started` meets its contract. A block, or a refusal. Assumes nothing.
 use Rattle.recorded.specs.Looks.{started}
-use Rattle.std.proofs.Common.{rules}
 use Rattle.recorded.proofs.looks.started.Goals as goal
 
 pub starts_at-requires : goal.starts_at-requires

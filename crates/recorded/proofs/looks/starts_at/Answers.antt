@@ -1,5 +1,4 @@
 -- `recorded::looks::starts_at` meets its contract. What the calls ensure. Assumes nothing.
-use Rattle.std.proofs.Common.{rules}
 use Rattle.recorded.proofs.looks.starts_at.Goals as goal
 
 pub returns : goal.returns

@@ -1,6 +1,5 @@
 -- `recorded::rows::row_at` meets its contract. What the calls ensure. Assumes nothing.
 use Rattle.recorded.specs.Rows.{row_at}
-use Rattle.std.proofs.Common.{rules}
 use Rattle.recorded.proofs.rows.row_at.Goals as goal
 
 pub returns : goal.returns

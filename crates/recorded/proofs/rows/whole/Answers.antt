@@ -1,6 +1,5 @@
 -- `recorded::rows::whole` meets its contract. Either side of the test. Assumes nothing.
 use Rattle.recorded.proofs.Whole.{cut_short, all_there}
-use Rattle.std.proofs.Common.{rules}
 use Rattle.recorded.proofs.rows.whole.Goals as goal
 
 pub returns-then-left-lt-WIDTH : goal.returns-then-left-lt-WIDTH

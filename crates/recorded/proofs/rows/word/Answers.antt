@@ -1,5 +1,5 @@
 -- `recorded::rows::word` meets its contract. Its four bytes stand in a row at `at`. Assumes nothing.
-use Rattle.std.proofs.Common.{◌+◌, sym, ◌∙◌, arith, rules}
+use Rattle.std.proofs.Common.{◌+◌, sym, ◌∙◌, arith}
 use Rattle.wire.proofs.LittleEndian.{le_at-suc}
 use Rattle.recorded.proofs.rows.word.Goals as goal
 

@@ -1,8 +1,6 @@
 -- `recorded::sums::fill` meets its contract. The loop's invariant: what is written and what is still to come are the message. Assumes nothing.
-use Rattle.std.proofs.Common.{◌≡◌, ◌-◌, ◌≤◌, ◌++◌, length, take, sym, refl, ◌∙◌, arith, length-set, rules}
-use native.Mathlib.Numerals.{unary_clauses}
+use Rattle.std.proofs.Common.{◌≡◌, ◌-◌, ◌≤◌, ◌++◌, length, take}
 use Rattle.recorded.specs.Sums.{rising}
-use Rattle.recorded.proofs.Loops.{fill_more, fill_end}
 use Rattle.recorded.proofs.sums.fill.Given as goal
 
 abbrev pub invariant-loop-i : goal.invariant-loop-i

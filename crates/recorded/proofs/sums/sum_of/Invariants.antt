@@ -1,7 +1,6 @@
 -- `recorded::sums::sum_of` meets its contract. The loop's invariant: the sum so far and the numbers left give the sum. Assumes nothing.
-use Rattle.std.proofs.Common.{◌≡◌, ◌-◌, ◌≤◌, length, drop, sym, ◌∙◌, arith, rules}
+use Rattle.std.proofs.Common.{◌≡◌, ◌-◌, ◌≤◌, length, drop}
 use Rattle.recorded.specs.Sums.{sum_from, sum_of}
-use Rattle.recorded.proofs.Loops.{sum_first, sum_more, sum-end}
 use Rattle.recorded.proofs.sums.sum_of.Given as goal
 
 abbrev pub invariant-loop-i : goal.invariant-loop-i

@@ -1,6 +1,5 @@
 -- `recorded::sums::sum_of_bytes` meets its contract. The loop's invariant: the sum so far and the numbers left give the sum. Assumes nothing.
-use Rattle.std.proofs.Common.{◌≡◌, ◌-◌, ◌≤◌, length, drop, sym, ◌∙◌, arith, rules}
-use Rattle.recorded.specs.Sums.{sum_from, sum_of}
+use Rattle.std.proofs.Common.{sym, ◌∙◌, arith}
 use Rattle.recorded.proofs.Loops.{sum_first, sum_more, sum-end}
 use Rattle.recorded.proofs.sums.sum_of_bytes.Goals as goal
 

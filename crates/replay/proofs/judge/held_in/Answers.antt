@@ -1,6 +1,5 @@
 -- `replay::judge::held_in` meets its contract. The count over the reach where block and memory are well formed, else the number that no step has. Assumes nothing.
 use Rattle.receive.proofs.Exact.{own-receiver, fits-tested}
-use borrow.Author.Tests.{not-false}
 use Rattle.ring.specs.Lists.{lists}
 use Rattle.replay.proofs.Held.{unfit, counted}
 use Rattle.std.proofs.Common.{ap}

@@ -1,11 +1,8 @@
 -- `replay::judge::run` meets its contract. The loop's invariant: the tally of the whole is that from here, and no lent memory changes its length. Assumes nothing.
-use Prim.Native.Nat.{◌-◌}
 use native.Mathlib.Omega.{arith}
-use mathlib.Core.Path.{◌≡◌, refl, ap, ◌∙◌}
-use lib.ListN.{length}
+use mathlib.Core.Path.{refl, ap, ◌∙◌}
 use Rattle.recorded.specs.declared.rows.Row.{Row}
-use Rattle.recorded.specs.Calls.{memory_of}
-use Rattle.replay.proofs.Judging.{Here, here-first, ends, goes, from_block}
+use Rattle.replay.proofs.Judging.{here-first, ends, goes, from_block}
 use Rattle.replay.proofs.judge.run.Goals as goal
 
 pub unplayed-made-requires : goal.unplayed-made-requires

@@ -1,11 +1,9 @@
 -- `replay::judge::run` meets its contract. The loop's invariant: the tally of the whole is that from here, and no lent memory changes its length. Assumes nothing.
 use Prim.Native.Nat.{◌-◌}
-use native.Mathlib.Omega.{arith}
-use mathlib.Core.Path.{◌≡◌, refl, ap, ◌∙◌}
+use mathlib.Core.Path.{◌≡◌}
 use lib.ListN.{length}
-use Rattle.recorded.specs.declared.rows.Row.{Row}
 use Rattle.recorded.specs.Calls.{memory_of}
-use Rattle.replay.proofs.Judging.{Here, here-first, ends, goes, from_block}
+use Rattle.replay.proofs.Judging.{Here}
 use Rattle.replay.proofs.judge.run.Given as goal
 
 abbrev pub invariant-loop-made : goal.invariant-loop-made

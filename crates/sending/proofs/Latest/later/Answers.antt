@@ -1,6 +1,5 @@
 -- `sending::Latest::later` meets its contract. Assumes nothing.
 use mathlib.Core.Path.{sym, ◌∙◌}
-use borrow.Author.Tests.{not-true, not-false}
 use Rattle.sending.proofs.Choices.{later_first, later-old, later_same, later_both}
 use Rattle.sending.proofs.Latest.later.Goals as goal
 

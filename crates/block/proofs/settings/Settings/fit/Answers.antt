@@ -1,8 +1,6 @@
 -- `block::settings::Settings::fit` meets its contract. Assumes nothing.
-use Prim.Native.Nat.{◌≤◌}
 use native.Mathlib.Omega.{arith}
-use mathlib.Core.Path.{◌≡◌, sym, ap, ◌∙◌}
-use mathlib.Core.Bool.{true}
+use mathlib.Core.Path.{sym, ap, ◌∙◌}
 use Rattle.block.proofs.Exact.{exactly-within}
 use Rattle.block.proofs.Together.{goes, stops}
 use Rattle.block.specs.Sizes.{mtu_size}

@@ -1,6 +1,5 @@
 -- `Packer::cut` meets its contract: a length is put, or none. Assumes nothing.
 use mathlib.Core.Path.{sym, ap, ◌∙◌}
-use mathlib.Core.Logic.{⊎_elim}
 use native.Mathlib.Omega.{arith}
 use lib.ListN.{length, length-set}
 use Rattle.ring.proofs.Rows.{put_one}
