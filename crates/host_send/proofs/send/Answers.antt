@@ -17,7 +17,7 @@ pub block-block-requires : goal.block-block-requires
 block-block-requires c = held-length _ c.is_block.ensures (ap not c.if-not-is_block.false)
 
 pub put_snd_ring-requires : goal.put_snd_ring-requires
-put_snd_ring-requires c = let d = c in held-length _ c.is_block.ensures (ap not c.if-not-is_block.false)
+put_snd_ring-requires c = held-length _ c.is_block.ensures (ap not c.if-not-is_block.false)
 
 pub returns : goal.returns
 returns c =

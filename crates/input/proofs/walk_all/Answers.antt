@@ -6,7 +6,7 @@ use Rattle.input.proofs.Loop.{going-first, in_datagram, few-skipped, next_in, go
 use Rattle.input.proofs.walk_all.Goals as goal
 
 pub loop-at-init : goal.loop-at-init
-loop-at-init c = let s = c in let a = c.args in (going-first a.datagram.now a.start (lists a.rcv_records.now a.rcv_room.now) a.acks.now a.snd_records.now c.requires.good c.requires.lies c.requires.skipped_value, refl, refl, refl, refl)
+loop-at-init c = let a = c.args in (going-first a.datagram.now a.start (lists a.rcv_records.now a.rcv_room.now) a.acks.now a.snd_records.now c.requires.good c.requires.lies c.requires.skipped_value, refl, refl, refl, refl)
 
 pub overflow_sub-datagram : goal.overflow_sub-datagram
 overflow_sub-datagram c = in_datagram c.loop-at.invariant.0 c.requires.datagram_len_bound

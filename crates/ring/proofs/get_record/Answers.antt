@@ -37,15 +37,13 @@ loop-i-smaller c = omega arith
 
 pub loop-i-preserved : goal.loop-i-preserved
 loop-i-preserved c =
-    let at-loop = c in
-    let args = at-loop.args in
-    (omega arith, (simp length-set (omega arith), get-turn _ args.numbers.now _ (args.slot * length args.numbers.now) _ (omega arith) (omega arith) at-loop.loop-i.invariant.1.1))
+    let args = c.args in
+    (omega arith, (simp length-set (omega arith), get-turn _ args.numbers.now _ (args.slot * length args.numbers.now) _ (omega arith) (omega arith) c.loop-i.invariant.1.1))
 
 pub shape_of-numbers : goal.shape_of-numbers
 shape_of-numbers c = omega arith
 
 pub returns : goal.returns
 returns c =
-    let at-loop = c in
-    let args = at-loop.args in
-    rw add-zero (get-end _ args.numbers.now _ (args.slot * length args.numbers.now) at-loop.loop-i.i (omega arith) (omega arith) at-loop.loop-i.invariant.1.1)
+    let args = c.args in
+    rw add-zero (get-end _ args.numbers.now _ (args.slot * length args.numbers.now) c.loop-i.i (omega arith) (omega arith) c.loop-i.invariant.1.1)

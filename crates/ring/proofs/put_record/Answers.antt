@@ -37,16 +37,14 @@ loop-i-smaller c = omega arith
 
 pub loop-i-preserved : goal.loop-i-preserved
 loop-i-preserved c =
-    let at-loop = c in
-    let args = at-loop.args in
-    (omega arith, (simp length-set (omega arith), put-turn _ _ args.numbers.now _ at-loop.loop-i.i (omega arith) (omega arith) at-loop.loop-i.invariant.1.1))
+    let args = c.args in
+    (omega arith, (simp length-set (omega arith), put-turn _ _ args.numbers.now _ c.loop-i.i (omega arith) (omega arith) c.loop-i.invariant.1.1))
 
 pub shape_of-records : goal.shape_of-records
 shape_of-records c = omega arith
 
 pub returns : goal.returns
 returns c =
-    let at-loop = c in
-    let args = at-loop.args in
-    let e : at-loop.loop-i.i ≡ length args.numbers.now = omega arith in
-    rw add-zero (put-end _ _ args.numbers.now _ (rw e at at-loop.loop-i.invariant.1.1))
+    let args = c.args in
+    let e : c.loop-i.i ≡ length args.numbers.now = omega arith in
+    rw add-zero (put-end _ _ args.numbers.now _ (rw e at c.loop-i.invariant.1.1))

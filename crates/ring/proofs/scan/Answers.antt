@@ -52,19 +52,17 @@ loop-i-smaller c = omega arith
 
 pub loop-i-preserved : goal.loop-i-preserved
 loop-i-preserved c =
-    let at-loop = c in
-    let args = at-loop.args in
+    let args = c.args in
     let d = c.at_least-lows.ensures in
     let e = c.at_least-highs.ensures in
-    let a = least_le args.low (get_or args.words.now at-loop.loop-i.i 0) in
-    let b = least_le args.high (get_or args.words.now at-loop.loop-i.i 0) in
-    let x = in_more args.low args.words.now args.from at-loop.loop-i.i (omega arith) in
-    let y = in_more args.high args.words.now args.from at-loop.loop-i.i (omega arith) in
+    let a = least_le args.low (get_or args.words.now c.loop-i.i 0) in
+    let b = least_le args.high (get_or args.words.now c.loop-i.i 0) in
+    let x = in_more args.low args.words.now args.from c.loop-i.i (omega arith) in
+    let y = in_more args.high args.words.now args.from c.loop-i.i (omega arith) in
     omega arith
 
 pub returns : goal.returns
 returns c =
-    let at-loop = c in
-    let args = at-loop.args in
-    let e : at-loop.loop-i.i ≡ args.to = omega arith in
-    rw e at at-loop.loop-i.invariant.1.1.1
+    let args = c.args in
+    let e : c.loop-i.i ≡ args.to = omega arith in
+    rw e at c.loop-i.invariant.1.1.1

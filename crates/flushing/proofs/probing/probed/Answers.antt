@@ -13,7 +13,7 @@ returns-then-wait-eq0 c = c.armed.ensures ∙ sym (pick_true _ _ (eq-eqb _ 0 c.i
 pub returns-then-wait-lt-PROBE_INIT : goal.returns-then-wait-lt-PROBE_INIT
 unfolding probed
 returns-then-wait-lt-PROBE_INIT c =
-    let s = c in absurd (no-short-wait c.args.probe c.requires c.if-wait-eq0.false c.if-wait-lt-PROBE_INIT.true)
+    absurd (no-short-wait c.args.probe c.requires c.if-wait-eq0.false c.if-wait-lt-PROBE_INIT.true)
 
 pub returns-then-not_before : goal.returns-then-not_before
 unfolding probed

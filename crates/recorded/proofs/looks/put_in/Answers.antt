@@ -9,4 +9,4 @@ pub of_put-requires : goal.of_put-requires
 of_put-requires c = tt
 
 pub returns : goal.returns
-returns c = let s = c in put-made c.args.handed.now c.args.buf.now _ c.requires c.copy.ensures c.set_conv-put.ensures c.sum_of_bytes.ensures c.of_put.ensures
+returns c = put-made c.args.handed.now c.args.buf.now _ c.requires c.copy.ensures c.set_conv-put.ensures c.sum_of_bytes.ensures c.of_put.ensures
