@@ -318,9 +318,9 @@ pub fn flush(
     out: &mut [u8],
     lengths: &mut [u16],
 ) -> Out
-    ensures { Flushes block (lists records.old room.now) acks.now (writing waiting.now out.entry.now lengths.old)
+    ensures { Flushes block (lists records.old room.now) acks.now (writing waiting.now out.old lengths.old)
         (record {
-          out = record { block = result.block; answer = result.answer; datagrams = result.datagrams; written = writing waiting.now out.exit.now lengths.new };
+          out = record { block = result.block; answer = result.answer; datagrams = result.datagrams; written = writing waiting.now out.new lengths.new };
           store = store_of 8 (lists records.new room.now);
         }) }
 {
@@ -338,9 +338,9 @@ pub fn update(
     out: &mut [u8],
     lengths: &mut [u16],
 ) -> Out
-    ensures { Updates block (lists records.old room.now) acks.now (writing waiting.now out.entry.now lengths.old) current
+    ensures { Updates block (lists records.old room.now) acks.now (writing waiting.now out.old lengths.old) current
         (record {
-          out = record { block = result.block; answer = result.answer; datagrams = result.datagrams; written = writing waiting.now out.exit.now lengths.new };
+          out = record { block = result.block; answer = result.answer; datagrams = result.datagrams; written = writing waiting.now out.new lengths.new };
           store = store_of 8 (lists records.new room.now);
         }) }
 {

@@ -345,10 +345,10 @@ fn flush(
     requires waiting_len { length waiting.now ≡ 1500 }
     requires sound { Sound 8 block.sender.ring (store_of 8 (lists records.old room.now)) }
     ensures { record {
-      out = record { block = result.block; answer = result.answer; datagrams = result.datagrams; written = writing waiting.now out.exit.now lengths.new };
+      out = record { block = result.block; answer = result.answer; datagrams = result.datagrams; written = writing waiting.now out.new lengths.new };
       store = store_of 8 (lists records.new room.now);
     }
-        ≡ flush_at before block (store_of 8 (lists records.old room.now)) acks.now (writing waiting.now out.entry.now lengths.old) }
+        ≡ flush_at before block (store_of 8 (lists records.old room.now)) acks.now (writing waiting.now out.old lengths.old) }
 {
     let plan = planned(block);
     let sizes = flush_sizes(block, plan, records);
@@ -385,10 +385,10 @@ pub fn turn(
     requires waiting_len { length waiting.now ≡ 1500 }
     requires sound { Sound 8 block.sender.ring (store_of 8 (lists records.old room.now)) }
     ensures { record {
-      out = record { block = result.block; answer = result.answer; datagrams = result.datagrams; written = writing waiting.now out.exit.now lengths.new };
+      out = record { block = result.block; answer = result.answer; datagrams = result.datagrams; written = writing waiting.now out.new lengths.new };
       store = store_of 8 (lists records.new room.now);
     }
-        ≡ turn_at tick block (store_of 8 (lists records.old room.now)) acks.now (writing waiting.now out.entry.now lengths.old) }
+        ≡ turn_at tick block (store_of 8 (lists records.old room.now)) acks.now (writing waiting.now out.old lengths.old) }
 {
     let clock = tick.clock;
     let now = block.with_clock(clock);

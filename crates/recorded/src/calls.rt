@@ -162,9 +162,9 @@ fn flushed(
     lengths: &mut [u16],
 ) -> Out
     ensures { record {
-      out = record { block = result.block; answer = result.answer; datagrams = result.datagrams; written = writing waiting.now out.exit.now lengths.new };
+      out = record { block = result.block; answer = result.answer; datagrams = result.datagrams; written = writing waiting.now out.new lengths.new };
       store = store_of 8 (lists snd_records.new snd_room.now);
-    } ≡ flushed_of row block (lists snd_records.old snd_room.now) acks.now (writing waiting.now out.entry.now lengths.old) }
+    } ≡ flushed_of row block (lists snd_records.old snd_room.now) acks.now (writing waiting.now out.old lengths.old) }
 {
     if row.code == 3 {
         return kcp_flush::flush(block, snd_records, snd_room, acks, waiting, out, lengths);
