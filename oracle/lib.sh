@@ -78,7 +78,7 @@ build_port() {
     fi
     library=$root/target/staticlib/libkcp_c.a
     newer=
-    [ ! -f "$library" ] || newer=$(find "$root/crates" "$root/crates.txt" -newer "$library" -type f | head -n 1)
+    [ ! -f "$library" ] || newer=$(find "$root/crates" "$root/crates.txt" -newer "$library" -type f -not -path "*/out/*" | head -n 1)
     if [ ! -f "$library" ] || [ -n "$newer" ]; then
         [ ! -t 2 ] || printf '\r\033[Kbuilding the port ..' >&2
         mkdir -p "$build"
