@@ -1,7 +1,7 @@
 -- "A block is made plain or stream, each with its own fixed defaults: mtu 1400, snd_wnd 32, rcv_wnd 128, rmt_wnd 128, cwnd 0, ssthresh 2,
 -- rx_rto 200, rx_minrto 100, interval 100, ts_flush 100, fastlimit 5, dead_link 20, all else 0 or false."
 -- The interval, which ts_flush starts from, is a parameter; the largest window yet set is that of rcv_wnd. Assumes nothing.
-use Rattle.std.specs.Prelude.{ℕ, ◌≡◌, Bool, true, false, ◌&&◌, List, [], length}
+use Rattle.std.specs.Prelude.{ℕ, ◌≡◌, Bool, true, false, ◌&&◌, List, [], length, Result, Ok, Err}
 use Rattle.serial.specs.Branch.{pick}
 use Rattle.estimator.specs.Estimate as estimate
 use Rattle.ring.specs.Lists.{Lists}
@@ -14,10 +14,9 @@ use Rattle.block.specs.declared.acklist.AckList.{AckList}
 use Rattle.block.specs.declared.sender.Sender.{Sender}
 use Rattle.block.specs.declared.Kcp.{Kcp}
 use Rattle.block.specs.declared.refusal.Refusal.TheVariants.{BadPool}
-use Rattle.block.specs.declared.make.Made.{Made}
-use Rattle.block.specs.declared.make.Made.TheVariants.{Block, Refused}
-use Rattle.block.specs.Refusals.{number_of, values_of}
+use Rattle.block.specs.Refusals.{number_of_answer, values_of_answer}
 use Rattle.block.specs.Sizes.{mss_of, receive_sizes, send_sizes, ack_sizes}
+use Rattle.block.specs.declared.refusal.Refusal.{Refusal}
 
 -- "mtu 1400", "fastlimit 5, dead_link 20"
 abbrev pub fresh_settings : ℕ → Bool → Settings
@@ -82,19 +81,11 @@ lent_sizes m =
     && ack_sizes (length m.acks) (length m.waiting)
 
 -- "a size outside the limits gives 15 there too"
-unfoldable pub made_of : Bool → Kcp → Made
-made_of sizes k = pick sizes (Block k) (Refused BadPool)
-
-abbrev pub number_of_made : Made → ℕ
-number_of_made (Block k) = 0
-number_of_made (Refused why) = number_of why
-
-abbrev pub values_of_made : Made → List ℕ
-values_of_made (Block k) = []
-values_of_made (Refused why) = values_of why
+unfoldable pub made_of : Bool → Kcp → Result Kcp Refusal
+made_of sizes k = pick sizes (Ok k) (Err BadPool)
 
 -- what a constructor of the block k promises of its answer r; it is lent its memory to look at only, so that no byte of it changes
-pub record Makes (m : Lent) (k : Kcp) (r : Made) : Type 0 where
+pub record Makes (m : Lent) (k : Kcp) (r : Result Kcp Refusal) : Type 0 where
   pub answer : r ≡ made_of (lent_sizes m) k
-  pub refusal : number_of_made r ≡ pick (lent_sizes m) 0 15
-  pub values : values_of_made r ≡ []
+  pub refusal : number_of_answer r ≡ pick (lent_sizes m) 0 15
+  pub values : values_of_answer r ≡ []

@@ -1,6 +1,6 @@
 -- The table of numbered refusals, and "1 carries the size, 2 the own and the met conv, 3 len and the bytes left, 4 the cmd, 10 the mtu; the
 -- others carry nothing more". Assumes nothing.
-use Rattle.std.specs.Prelude.{ℕ, List, [], ◌∷◌, length, get_or}
+use Rattle.std.specs.Prelude.{ℕ, List, [], ◌∷◌, length, get_or, Result, Ok, Err}
 use Rattle.block.specs.declared.refusal.Refusal.{Refusal}
 use Rattle.block.specs.declared.refusal.Refusal.TheVariants.{
   InvalidSegmentSize,
@@ -20,10 +20,6 @@ use Rattle.block.specs.declared.refusal.Refusal.TheVariants.{
   BadPool,
   ShortHeader,
 }
-use Rattle.block.specs.declared.refusal.Answer.{Answer}
-use Rattle.block.specs.declared.refusal.Answer.TheVariants.{Done, Refused}
-use Rattle.block.specs.declared.refusal.Bytes.{Bytes}
-use Rattle.block.specs.declared.refusal.Bytes.TheVariants.{Are, Refused as NoBytes}
 use Rattle.block.specs.declared.refusal.Values.{Values}
 use Rattle.wire.specs.Helpers.{sixteen}
 
@@ -63,23 +59,20 @@ values_of WindowTooLarge = []
 values_of BadPool = []
 values_of ShortHeader = []
 
--- the number and the values of an answer, 0 and none where nothing is refused
-abbrev pub number_of_answer : Answer → ℕ
-number_of_answer Done = 0
-number_of_answer (Refused why) = number_of why
+-- the number of an answer, 0 where nothing is refused
+abbrev pub number_of_answer : {A : Type 0} → Result A Refusal → ℕ
+number_of_answer (Ok x) = 0
+number_of_answer (Err why) = number_of why
 
-abbrev pub values_of_answer : Answer → List ℕ
-values_of_answer Done = []
-values_of_answer (Refused why) = values_of why
+-- the values of an answer that carries none where nothing is refused
+abbrev pub values_of_answer : {A : Type 0} → Result A Refusal → List ℕ
+values_of_answer (Ok x) = []
+values_of_answer (Err why) = values_of why
 
--- the same where bytes are counted: 0 and the count where nothing is refused
-abbrev pub number_of_bytes : Bytes → ℕ
-number_of_bytes (Are count) = 0
-number_of_bytes (NoBytes why) = number_of why
-
-abbrev pub values_of_bytes : Bytes → List ℕ
-values_of_bytes (Are count) = count ∷ []
-values_of_bytes (NoBytes why) = values_of why
+-- and of one that counts: bytes, or milliseconds
+abbrev pub values_of_count : Result ℕ Refusal → List ℕ
+values_of_count (Ok count) = count ∷ []
+values_of_count (Err why) = values_of why
 
 -- a list of at most two values as a row
 abbrev pub row_of : List ℕ → Values

@@ -1,11 +1,10 @@
 -- The setters that are handed no pool, each in the steps of the Rust's function of that name. Assumes nothing.
-use Rattle.std.specs.Prelude.{ℕ, ◌≡◌, Bool, true, [], ◌∷◌, ltb, ℤ, pos, nat_abs}
+use Rattle.std.specs.Prelude.{ℕ, ◌≡◌, Bool, true, [], ◌∷◌, ltb, ℤ, pos, nat_abs, Ok, Err}
 use Rattle.std.specs.Int.Signed.{lt_z, le_z}
 use Rattle.serial.specs.Branch.{pick}
 use Rattle.block.specs.declared.Kcp.{Kcp}
 use Rattle.block.specs.declared.set.Set.{Set}
 use Rattle.block.specs.declared.refusal.Refusal.TheVariants.{InvalidMtu}
-use Rattle.block.specs.declared.refusal.Answer.TheVariants.{Done, Refused}
 use Rattle.block.specs.Refusals.{number_of_answer, values_of_answer}
 use Rattle.block.specs.Sizes.{mtu_size, mss_of}
 use Rattle.block.specs.Parts.{with_settings, with_clock, with_estimator, with_conv, with_mtu, with_nodelay, with_input_conv, with_fastresend, with_dead_link, with_interval, with_minrto}
@@ -14,8 +13,8 @@ use Rattle.block.specs.Parts.{with_settings, with_clock, with_estimator, with_co
 unfoldable pub set_mtu : Kcp → ℕ → Set
 set_mtu k mtu =
     pick (mtu_size mtu)
-    (record { block = with_settings k (with_mtu k.settings mtu (mss_of mtu)); answer = Done })
-    (record { block = k; answer = Refused (InvalidMtu mtu) })
+    (record { block = with_settings k (with_mtu k.settings mtu (mss_of mtu)); answer = Ok tt })
+    (record { block = k; answer = Err (InvalidMtu mtu) })
 
 -- what `set_mtu` promises of its outcome r
 pub record MtuSet (k : Kcp) (mtu : ℕ) (r : Set) : Type 0 where

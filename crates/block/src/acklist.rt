@@ -3,10 +3,10 @@ ghost use Rattle.std.specs.Prelude.{◌≡◌};
 ghost use Rattle.block.specs.Fresh.{fresh_ack_list};
 ghost use Rattle.block.specs.WellFormed.{acklist_fits, ack_numbers, ack_lent};
 
+use crate::Kcp;
 use crate::sizes::ack_sizes;
-use crate::{Kcp, both, wide};
 
-#[derive(Clone, Copy)]
+#[derive(Clone, Copy, Debug, PartialEq, Eq)]
 pub struct AckList {
     pub acks: u32,
     pub waiting: u32,
@@ -24,29 +24,25 @@ impl AckList {
     }
 
     // Whether there are at most 4,096 acks, and at most 1,500 bytes wait.
+    #[tactic(auto, unfolding(crate::specs::WellFormed::acklist_fits))]
     pub fn fits(self) -> bool
         ensures { result ≡ acklist_fits self }
     {
-        both(
-            wide(self.acks) <= Kcp::ACKS_MOST,
-            wide(self.waiting) <= Kcp::WAITING,
-        )
+        self.acks as usize <= Kcp::ACKS_MOST && self.waiting as usize <= Kcp::WAITING
     }
 
     // Whether the ack list is at most as long as the pairs lent.
     pub fn ack_numbers(self, pairs: usize) -> bool
         ensures { result ≡ ack_numbers pairs self }
     {
-        wide(self.acks) <= pairs
+        self.acks as usize <= pairs
     }
 
     // Whether an ack memory is within the limits and holds the acks that are counted.
+    #[tactic(auto, unfolding(crate::specs::WellFormed::ack_lent))]
     pub fn lent_fits(self, acks: &[u32], waiting: &[u8]) -> bool
         ensures { result ≡ ack_lent self acks.now waiting.now }
     {
-        if ack_sizes(acks.len(), waiting.len()) {
-            return self.ack_numbers(acks.len() / Kcp::ACK_PAIR);
-        }
-        false
+        ack_sizes(acks.len(), waiting.len()) && self.ack_numbers(acks.len() / Kcp::ACK_PAIR)
     }
 }

@@ -6,7 +6,7 @@ ghost use Rattle.block.specs.Setters.{interval_of, interval_of_signed};
 
 use crate::Kcp;
 
-#[derive(Clone, Copy)]
+#[derive(Clone, Copy, Debug, PartialEq, Eq)]
 pub struct Clock {
     pub current: u32,
     pub interval: u32,
@@ -15,29 +15,19 @@ pub struct Clock {
 }
 
 // An interval as it is set: from 10 to 5,000.
+#[tactic(auto, unfolding(crate::specs::Setters::interval_of, serial::specs::Branch::pick))]
 pub fn interval_of(interval: u32) -> u32
     ensures { result ≡ interval_of interval }
 {
-    if Kcp::INTERVAL_MOST < interval {
-        return Kcp::INTERVAL_MOST;
-    }
-    if interval < Kcp::INTERVAL_LEAST {
-        return Kcp::INTERVAL_LEAST;
-    }
-    interval
+    interval.clamp(Kcp::INTERVAL_LEAST, Kcp::INTERVAL_MOST)
 }
 
 // The same of a signed number.
+#[tactic(auto, unfolding(crate::specs::Setters::interval_of_signed, serial::specs::Branch::pick))]
 pub fn interval_of_signed(interval: i32) -> u32
     ensures { result ≡ interval_of_signed interval }
 {
-    if interval < Kcp::INTERVAL_LEAST as i32 {
-        return Kcp::INTERVAL_LEAST;
-    }
-    if (Kcp::INTERVAL_MOST as i32) < interval {
-        return Kcp::INTERVAL_MOST;
-    }
-    interval as u32
+    interval.clamp(Kcp::INTERVAL_LEAST as i32, Kcp::INTERVAL_MOST as i32) as u32
 }
 
 impl Clock {
@@ -47,17 +37,16 @@ impl Clock {
     {
         Clock {
             current: 0,
-            interval: interval,
+            interval,
             ts_flush: interval,
             updated: false,
         }
     }
 
     // The clock with this interval; the next flush stays.
-    pub fn with_interval(mut self, interval: u32) -> Clock
+    pub fn with_interval(self, interval: u32) -> Clock
         ensures { result ≡ with_interval self interval }
     {
-        self.interval = interval;
-        self
+        Clock { interval, ..self }
     }
 }

@@ -4,7 +4,7 @@ ghost use Rattle.block.specs.Fresh.{fresh_congestion};
 
 use crate::Kcp;
 
-#[derive(Clone, Copy)]
+#[derive(Clone, Copy, Debug, PartialEq, Eq)]
 pub struct Congestion {
     pub snd_wnd: u16,
     pub rmt_wnd: u16,

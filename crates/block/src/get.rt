@@ -1,7 +1,7 @@
 // The getters. Each leaves the block.
 ghost use Rattle.std.specs.Prelude.{◌≡◌, ◌+◌};
 
-use crate::{Kcp, wide};
+use crate::Kcp;
 
 impl Kcp {
     // The conversation.
@@ -22,14 +22,14 @@ impl Kcp {
     pub fn mtu(self) -> usize
         ensures { result ≡ self.settings.mtu }
     {
-        wide(self.settings.mtu)
+        self.settings.mtu as usize
     }
 
     // The most bytes of a payload.
     pub fn mss(self) -> usize
         ensures { result ≡ self.settings.mss }
     {
-        wide(self.settings.mss)
+        self.settings.mss as usize
     }
 
     // The send window.
@@ -57,8 +57,7 @@ impl Kcp {
     pub fn wait_snd(self) -> usize
         ensures { result ≡ self.sender.ring.flying + self.sender.ring.unsent }
     {
-        let sender = self.sender;
-        sender.segments()
+        self.sender.segments()
     }
 
     // A header's bytes.

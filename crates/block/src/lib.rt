@@ -2,8 +2,6 @@
 // setters and getters that are handed no pool.
 #![tactic(auto)]
 
-ghost use Rattle.std.specs.Prelude.{◌≡◌, ◌<◌, ◌^◌, ◌&&◌, ◌||◌};
-
 use acklist::AckList;
 use clock::Clock;
 use congestion::Congestion;
@@ -24,12 +22,11 @@ pub mod sender; // the numbers of the sending side
 pub mod sizes; // the tests of lent sizes
 pub mod make; // the constructors
 pub mod fit; // the tests of the block
-pub mod with; // the block with one part changed
 pub mod set; // the setters
 pub mod get; // the getters
 
 // The block. A function takes the part that it needs; one on the whole block only moves parts.
-#[derive(Clone, Copy)]
+#[derive(Clone, Copy, Debug, PartialEq, Eq)]
 pub struct Kcp {
     pub settings: Settings,
     pub clock: Clock,
@@ -112,32 +109,4 @@ impl Kcp {
     pub const ROOM: usize = 1476;
 
     pub const WAITING: usize = 1500;
-}
-
-// A number as a wider one.
-fn wide(x: u32) -> usize
-    ensures { (result ≡ x) × (result < 2 ^ 32) }
-{
-    x as usize
-}
-
-// The same of 16 bits.
-fn wide16(x: u16) -> usize
-    ensures { (result ≡ x) × (result < 2 ^ 16) }
-{
-    x as usize
-}
-
-// Whether both hold.
-fn both(a: bool, b: bool) -> bool
-    ensures { result ≡ (a && b) }
-{
-    if a { b } else { false }
-}
-
-// Whether one of the two holds.
-fn either(a: bool, b: bool) -> bool
-    ensures { result ≡ (a || b) }
-{
-    if a { true } else { b }
 }

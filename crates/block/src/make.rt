@@ -1,8 +1,9 @@
-// The constructors: a fresh block, plain or stream.
+// The constructors: a fresh block, plain or stream, two names as the scope document has them. The lent lists are handed one by one, as C hands them.
 ghost use Rattle.std.specs.Prelude.{◌≡◌};
 ghost use Rattle.ring.specs.Lists.{lists};
 ghost use Rattle.block.specs.Fresh.{Lent, fresh, fresh_plain, fresh_stream, Makes};
 
+use crate::Kcp;
 use crate::acklist::AckList;
 use crate::clock::Clock;
 use crate::congestion::Congestion;
@@ -12,18 +13,11 @@ use crate::refusal::Refusal;
 use crate::sender::Sender;
 use crate::settings::Settings;
 use crate::sizes::{ack_sizes, receive_sizes, send_sizes};
-use crate::{Kcp, both};
 use estimator::Estimator;
-
-// What a constructor answers: the block, or refusal 15.
-#[derive(Clone, Copy)]
-pub enum Made {
-    Block { block: Kcp },
-    Refused { why: Refusal },
-}
 
 impl Kcp {
     // A fresh block that flushes at this interval.
+    #[tactic(auto, unfolding(crate::specs::Fresh::fresh))]
     fn construct(conv: u32, stream: bool, interval: u32) -> Kcp
         ensures { result ≡ fresh conv stream interval }
     {
@@ -40,6 +34,7 @@ impl Kcp {
     }
 
     // A fresh block, or refusal 15 where a lent size is outside the limits. What the lent memory holds is no fault, and is left as it is.
+    #[tactic(auto, unfolding(crate::specs::Fresh::lent_sizes, crate::specs::Fresh::made_of, serial::specs::Branch::pick))]
     fn make(
         conv: u32,
         stream: bool,
@@ -50,19 +45,16 @@ impl Kcp {
         snd_room: &[u8],
         acks: &[u32],
         waiting: &[u8],
-    ) -> Made
+    ) -> Result<Kcp, Refusal>
         ensures { Makes (record { rcv = lists rcv_records.now rcv_room.now; snd = lists snd_records.now snd_room.now; acks = acks.now; waiting = waiting.now }) (fresh conv stream interval) result }
     {
         let receive = receive_sizes(rcv_records.len(), rcv_room.len());
         let send = send_sizes(snd_records.len(), snd_room.len());
         let list = ack_sizes(acks.len(), waiting.len());
-        if both(both(receive, send), list) {
-            return Made::Block {
-                block: Kcp::construct(conv, stream, interval),
-            };
-        }
-        Made::Refused {
-            why: Refusal::BadPool,
+        if receive && send && list {
+            Ok(Kcp::construct(conv, stream, interval))
+        } else {
+            Err(Refusal::BadPool)
         }
     }
 
@@ -75,7 +67,7 @@ impl Kcp {
         snd_room: &[u8],
         acks: &[u32],
         waiting: &[u8],
-    ) -> Made
+    ) -> Result<Kcp, Refusal>
         ensures { Makes (record { rcv = lists rcv_records.now rcv_room.now; snd = lists snd_records.now snd_room.now; acks = acks.now; waiting = waiting.now }) (fresh_plain conv) result }
     {
         Kcp::make(
@@ -100,7 +92,7 @@ impl Kcp {
         snd_room: &[u8],
         acks: &[u32],
         waiting: &[u8],
-    ) -> Made
+    ) -> Result<Kcp, Refusal>
         ensures { Makes (record { rcv = lists rcv_records.now rcv_room.now; snd = lists snd_records.now snd_room.now; acks = acks.now; waiting = waiting.now }) (fresh_stream conv) result }
     {
         Kcp::make(

@@ -1,12 +1,12 @@
-// The window probe: what is to go out (bits ASK_SEND and ASK_TELL), when the next ask is due, and the wait before it.
+// The window probe: what is to go out (bits ASK_SEND and ASK_TELL), when the next ask is due, and the wait before it. The
+// bits stay a number: a host keeps them as a word, and the Rust's state has them.
 ghost use Rattle.std.specs.Prelude.{◌≡◌};
 ghost use Rattle.block.specs.Fresh.{fresh_probe};
 ghost use Rattle.block.specs.WellFormed.{probe_fits};
 
-use crate::sizes::within;
-use crate::{Kcp, wide};
+use crate::Kcp;
 
-#[derive(Clone, Copy)]
+#[derive(Clone, Copy, Debug, PartialEq, Eq)]
 pub struct Probe {
     pub bits: u32,
     pub ts_probe: u32,
@@ -26,17 +26,11 @@ impl Probe {
     }
 
     // Whether the wait is 0 or from 7,000 to 120,000.
+    #[tactic(auto, unfolding(crate::specs::WellFormed::probe_fits))]
     pub fn fits(self) -> bool
         ensures { result ≡ probe_fits self }
     {
         let wait = self.probe_wait;
-        if wait == 0 {
-            return true;
-        }
-        within(
-            Kcp::PROBE_INIT as usize,
-            wide(wait),
-            Kcp::PROBE_LIMIT as usize,
-        )
+        wait == 0 || (Kcp::PROBE_INIT <= wait && wait <= Kcp::PROBE_LIMIT)
     }
 }

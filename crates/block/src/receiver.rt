@@ -4,11 +4,10 @@ ghost use Rattle.block.specs.Fresh.{fresh_receiver};
 ghost use Rattle.block.specs.Parts.{with_rcv_ring};
 ghost use Rattle.block.specs.WellFormed.{receiver_fits, receive_numbers};
 
-use crate::sizes::within;
-use crate::{Kcp, both, wide, wide16};
+use crate::Kcp;
 use rcv_ring::RcvRing;
 
-#[derive(Clone, Copy)]
+#[derive(Clone, Copy, Debug, PartialEq, Eq)]
 pub struct Receiver {
     pub rcv_nxt: u32,
     pub rcv_wnd: u16,
@@ -38,30 +37,31 @@ impl Receiver {
         ensures { result ≡ with_rcv_ring self rcv_nxt ring }
     {
         Receiver {
-            rcv_nxt: rcv_nxt,
-            rcv_wnd: self.rcv_wnd,
-            largest: self.largest,
-            ring: ring,
+            rcv_nxt,
+            ring,
+            ..self
         }
     }
 
     // Whether the window lies from 128 to the largest yet set, that is at most 512, and queue and reach are at most that.
+    #[tactic(auto, unfolding(crate::specs::WellFormed::receiver_fits))]
     pub fn fits(self) -> bool
         ensures { result ≡ receiver_fits self }
     {
         let ring = self.ring;
-        let largest = wide16(self.largest);
-        let window = within(Kcp::WND_RCV as usize, wide16(self.rcv_wnd), largest);
-        let counts = both(wide(ring.queued) <= largest, wide(ring.reach) <= largest);
-        let most = both(largest <= Kcp::WND_MOST, wide(ring.start) < Kcp::SLOTS_MOST);
-        both(window, both(counts, most))
+        let largest = self.largest as usize;
+        Kcp::WND_RCV <= self.rcv_wnd
+            && self.rcv_wnd <= self.largest
+            && ring.queued as usize <= largest
+            && ring.reach as usize <= largest
+            && largest <= Kcp::WND_MOST
+            && (ring.start as usize) < Kcp::SLOTS_MOST
     }
 
     // Whether the ring starts within the slots lent, and twice the largest window is at most those.
     pub fn receive_numbers(self, slots: usize) -> bool
         ensures { result ≡ receive_numbers slots self }
     {
-        let ring = self.ring;
-        both(wide(ring.start) < slots, 2 * wide16(self.largest) <= slots)
+        (self.ring.start as usize) < slots && 2 * self.largest as usize <= slots
     }
 }

@@ -1,9 +1,12 @@
-// The sixteen refusals, and the answer of a call that answers nothing else.
+// The sixteen refusals, their numbers and values.
 ghost use Rattle.std.specs.Prelude.{◌≡◌};
+ghost use Rattle.block.specs.declared.refusal.Refusal.TheVariants.{ShortHeader as ShortOne, UnsupportedCmd as OtherCmd};
 ghost use Rattle.block.specs.Refusals.{number_of, values_of, number_of_answer, row_of};
 
+use wire::{ShortHeader, UnsupportedCmd};
+
 // Why a call was refused, with the values that go with it.
-#[derive(Clone, Copy)]
+#[derive(Clone, Copy, Debug, PartialEq, Eq)]
 pub enum Refusal {
     InvalidSegmentSize { size: usize },
     ConvInconsistent { own: u32, met: u32 },
@@ -23,22 +26,8 @@ pub enum Refusal {
     ShortHeader,
 }
 
-// What a call answers that has nothing to tell but whether it was refused.
-#[derive(Clone, Copy)]
-pub enum Answer {
-    Done,
-    Refused { why: Refusal },
-}
-
-// What a call answers that counts bytes: those that a send queued or that an input read, or why there are none.
-#[derive(Clone, Copy)]
-pub enum Bytes {
-    Are { count: usize },
-    Refused { why: Refusal },
-}
-
 // The values of a refusal as a row: how many there are, and 0 in the place of one that is missing.
-#[derive(Clone, Copy)]
+#[derive(Clone, Copy, Debug, PartialEq, Eq)]
 pub struct Values {
     pub count: u32,
     pub first: usize,
@@ -119,14 +108,30 @@ impl Refusal {
     }
 }
 
-impl Answer {
-    // The number of the refusal, or 0.
-    pub fn number(self) -> u32
-        ensures { result ≡ number_of_answer self }
-    {
-        match self {
-            Answer::Done => 0,
-            Answer::Refused { why } => why.number(),
-        }
+// The number of the refusal, or 0.
+pub fn number_of<T: Copy>(answer: Result<T, Refusal>) -> u32
+    ensures { result ≡ number_of_answer answer }
+{
+    match answer {
+        Ok(_) => 0,
+        Err(why) => why.number(),
+    }
+}
+
+// A header helper's refusal is the last of the sixteen.
+impl From<ShortHeader> for Refusal {
+    ghost from_gives = { λ e why. why ≡ ShortOne };
+
+    fn from(_e: ShortHeader) -> Refusal {
+        Refusal::ShortHeader
+    }
+}
+
+// So is that of a cmd that is none of the four.
+impl From<UnsupportedCmd> for Refusal {
+    ghost from_gives = { λ e why. why ≡ OtherCmd e.cmd };
+
+    fn from(e: UnsupportedCmd) -> Refusal {
+        Refusal::UnsupportedCmd { cmd: e.cmd }
     }
 }

@@ -5,10 +5,10 @@ ghost use Rattle.block.specs.Fresh.{fresh_sender};
 ghost use Rattle.block.specs.Parts.{with_snd_ring, with_una};
 ghost use Rattle.block.specs.WellFormed.{sender_fits, send_numbers};
 
-use crate::{Kcp, both, either, wide};
+use crate::Kcp;
 use snd_ring::SndRing;
 
-#[derive(Clone, Copy)]
+#[derive(Clone, Copy, Debug, PartialEq, Eq)]
 pub struct Sender {
     pub snd_una: u32,
     pub snd_nxt: u32,
@@ -40,42 +40,33 @@ impl Sender {
     pub fn with_ring(self, ring: SndRing) -> Sender
         ensures { result ≡ with_snd_ring self ring }
     {
-        Sender {
-            snd_una: self.snd_una,
-            snd_nxt: self.snd_nxt,
-            ring: ring,
-            xmit: self.xmit,
-            dead: self.dead,
-        }
+        Sender { ring, ..self }
     }
 
     // The sending side with this first unacknowledged number.
-    pub fn with_una(mut self, snd_una: u32) -> Sender
+    pub fn with_una(self, snd_una: u32) -> Sender
         ensures { result ≡ with_una self snd_una }
     {
-        self.snd_una = snd_una;
-        self
+        Sender { snd_una, ..self }
     }
 
     // How many segments are in flight or wait to be sent.
     pub fn segments(self) -> usize
         ensures { result ≡ self.ring.flying + self.ring.unsent }
     {
-        let ring = self.ring;
-        wide(ring.flying) + wide(ring.unsent)
+        self.ring.flying as usize + self.ring.unsent as usize
     }
 
     // Whether no more than 1,024 slots are in use, no more are in flight than its reach, and something is in flight where the reach is not 0.
+    #[tactic(auto, unfolding(crate::specs::WellFormed::sender_fits))]
     pub fn fits(self) -> bool
         ensures { result ≡ sender_fits self }
     {
         let ring = self.ring;
-        let used = wide(ring.reach) + wide(ring.unsent) <= Kcp::SLOTS_MOST;
-        let flight = both(
-            ring.flying <= ring.reach,
-            either(ring.reach == 0, 0 < ring.flying),
-        );
-        both(used, both(flight, wide(ring.start) < Kcp::SLOTS_MOST))
+        ring.reach as usize + ring.unsent as usize <= Kcp::SLOTS_MOST
+            && ring.flying <= ring.reach
+            && (ring.reach == 0 || 0 < ring.flying)
+            && (ring.start as usize) < Kcp::SLOTS_MOST
     }
 
     // Whether the ring starts within the slots lent, and no more of them are in use than there are.
@@ -83,9 +74,6 @@ impl Sender {
         ensures { result ≡ send_numbers slots self }
     {
         let ring = self.ring;
-        both(
-            wide(ring.start) < slots,
-            wide(ring.reach) + wide(ring.unsent) <= slots,
-        )
+        (ring.start as usize) < slots && ring.reach as usize + ring.unsent as usize <= slots
     }
 }

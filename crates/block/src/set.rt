@@ -4,17 +4,20 @@ ghost use Rattle.block.specs.Setters.{MtuSet, set_interval, set_nodelay, set_rx_
 
 use crate::Kcp;
 use crate::clock::{interval_of, interval_of_signed};
-use crate::refusal::{Answer, Refusal};
+use crate::refusal::Refusal;
+use crate::settings::Settings;
 use crate::sizes::within;
+use estimator::Estimator;
 
 // The block after a setter, and whether it was refused.
-#[derive(Clone, Copy)]
+#[derive(Clone, Copy, Debug, PartialEq, Eq)]
 pub struct Set {
     pub block: Kcp,
-    pub answer: Answer,
+    pub answer: Result<(), Refusal>,
 }
 
 // The least timeout with nodelay, and without.
+#[tactic(auto, unfolding(crate::specs::Setters::minrto_of, serial::specs::Branch::pick))]
 fn minrto_of(nodelay: bool) -> u32
     ensures { result ≡ minrto_of nodelay }
 {
@@ -23,22 +26,21 @@ fn minrto_of(nodelay: bool) -> u32
 
 impl Kcp {
     // Sets the mtu, and mss with it; refused by 10 under 50 or over 1,500, which leaves all.
+    #[tactic(auto, unfolding(crate::specs::Setters::set_mtu, serial::specs::Branch::pick))]
     pub fn set_mtu(self, mtu: usize) -> Set
         ensures { MtuSet self mtu result }
     {
-        if within(Kcp::MTU_LEAST, mtu, Kcp::MTU_MOST) {
-            let m = mtu as u32;
-            let settings = self.settings;
+        if !within(Kcp::MTU_LEAST, mtu, Kcp::MTU_MOST) {
             return Set {
-                block: self.with_settings(settings.with_mtu(m, m - Kcp::OVERHEAD)),
-                answer: Answer::Done,
+                block: self,
+                answer: Err(Refusal::InvalidMtu { mtu }),
             };
         }
+        let m = mtu as u32;
+        let settings = self.settings.with_mtu(m, m - Kcp::OVERHEAD);
         Set {
-            block: self,
-            answer: Answer::Refused {
-                why: Refusal::InvalidMtu { mtu: mtu },
-            },
+            block: Kcp { settings, ..self },
+            answer: Ok(()),
         }
     }
 
@@ -46,64 +48,73 @@ impl Kcp {
     pub fn set_interval(self, interval: u32) -> Kcp
         ensures { result ≡ set_interval self interval }
     {
-        let clock = self.clock;
-        self.with_clock(clock.with_interval(interval_of(interval)))
+        let clock = self.clock.with_interval(interval_of(interval));
+        Kcp { clock, ..self }
     }
 
     // Sets nodelay, with the least timeout of 30 or 100, the interval, fastresend unless it is negative, and nocwnd. The timeout stays.
     pub fn set_nodelay(self, nodelay: bool, interval: i32, resend: i32, nc: bool) -> Kcp
         ensures { result ≡ set_nodelay self nodelay interval resend nc }
     {
-        let settings = self.settings;
-        let clock = self.clock;
-        let k = self.set_rx_minrto(minrto_of(nodelay));
-        let c = clock.with_interval(interval_of_signed(interval));
-        k.with_clock(c)
-            .with_settings(settings.with_nodelay(nodelay, resend, nc))
+        Kcp {
+            settings: self.settings.with_nodelay(nodelay, resend, nc),
+            clock: self.clock.with_interval(interval_of_signed(interval)),
+            ..self.set_rx_minrto(minrto_of(nodelay))
+        }
     }
 
     // Sets the least timeout; the timeout stays.
     pub fn set_rx_minrto(self, rto: u32) -> Kcp
         ensures { result ≡ set_rx_minrto self rto }
     {
-        let mut estimator = self.estimator;
-        estimator.minrto = rto;
-        self.with_estimator(estimator)
+        let estimator = Estimator {
+            minrto: rto,
+            ..self.estimator
+        };
+        Kcp { estimator, ..self }
     }
 
     // Sets how many acks of later segments have a segment resent; 0 for never.
     pub fn set_fast_resend(self, fr: u32) -> Kcp
         ensures { result ≡ set_fast_resend self fr }
     {
-        let mut settings = self.settings;
-        settings.fastresend = fr;
-        self.with_settings(settings)
+        let settings = Settings {
+            fastresend: fr,
+            ..self.settings
+        };
+        Kcp { settings, ..self }
     }
 
     // Sets after how many transmissions of one segment the link is dead.
     pub fn set_maximum_resend_times(self, dead_link: u32) -> Kcp
         ensures { result ≡ set_maximum_resend_times self dead_link }
     {
-        let mut settings = self.settings;
-        settings.dead_link = dead_link;
-        self.with_settings(settings)
+        let settings = Settings {
+            dead_link,
+            ..self.settings
+        };
+        Kcp { settings, ..self }
     }
 
     // Has the next input's conv adopted.
     pub fn input_conv(self) -> Kcp
         ensures { result ≡ input_conv self }
     {
-        let mut settings = self.settings;
-        settings.input_conv = true;
-        self.with_settings(settings)
+        let settings = Settings {
+            input_conv: true,
+            ..self.settings
+        };
+        Kcp { settings, ..self }
     }
 
     // Sets the conversation; where one is awaited, it still is.
     pub fn set_conv(self, conv: u32) -> Kcp
         ensures { result ≡ set_conv self conv }
     {
-        let mut settings = self.settings;
-        settings.conv = conv;
-        self.with_settings(settings)
+        let settings = Settings {
+            conv,
+            ..self.settings
+        };
+        Kcp { settings, ..self }
     }
 }

@@ -5,10 +5,10 @@ ghost use Rattle.block.specs.WellFormed.{settings_fit};
 ghost use Rattle.block.specs.Parts.{with_mtu, with_nodelay, with_fastresend};
 ghost use Rattle.block.specs.Setters.{resend_of};
 
+use crate::Kcp;
 use crate::sizes::within;
-use crate::{Kcp, wide};
 
-#[derive(Clone, Copy)]
+#[derive(Clone, Copy, Debug, PartialEq, Eq)]
 pub struct Settings {
     pub conv: u32,
     pub mtu: u32,
@@ -23,13 +23,15 @@ pub struct Settings {
 }
 
 // What fastresend becomes: a negative number keeps it.
+#[tactic(auto, unfolding(crate::specs::Setters::resend_of, serial::specs::Branch::pick))]
 pub fn resend_of(fastresend: u32, resend: i32) -> u32
     ensures { result ≡ resend_of fastresend resend }
 {
     if 0 <= resend {
-        return resend as u32;
+        resend as u32
+    } else {
+        fastresend
     }
-    fastresend
 }
 
 impl Settings {
@@ -38,12 +40,12 @@ impl Settings {
         ensures { result ≡ fresh_settings conv stream }
     {
         Settings {
-            conv: conv,
+            conv,
             mtu: Kcp::MTU_DEF,
             mss: Kcp::MTU_DEF - Kcp::OVERHEAD,
             nodelay: false,
             nocwnd: false,
-            stream: stream,
+            stream,
             input_conv: false,
             fastresend: 0,
             fastlimit: Kcp::FASTACK_LIMIT,
@@ -52,23 +54,19 @@ impl Settings {
     }
 
     // Whether the mtu lies within its limits, and mss is the rest of it.
+    #[tactic(auto, unfolding(crate::specs::WellFormed::settings_fit))]
     pub fn fit(self) -> bool
         ensures { result ≡ settings_fit self }
     {
-        let mtu = self.mtu;
-        if within(Kcp::MTU_LEAST, wide(mtu), Kcp::MTU_MOST) {
-            return self.mss == mtu - Kcp::OVERHEAD;
-        }
-        false
+        within(Kcp::MTU_LEAST, self.mtu as usize, Kcp::MTU_MOST)
+            && self.mss == self.mtu - Kcp::OVERHEAD
     }
 
     // The settings with this mtu and this mss.
-    pub fn with_mtu(mut self, mtu: u32, mss: u32) -> Settings
+    pub fn with_mtu(self, mtu: u32, mss: u32) -> Settings
         ensures { result ≡ with_mtu self mtu mss }
     {
-        self.mtu = mtu;
-        self.mss = mss;
-        self
+        Settings { mtu, mss, ..self }
     }
 
     // The settings with nodelay, fastresend unless the number is negative, and nocwnd.
@@ -76,16 +74,10 @@ impl Settings {
         ensures { result ≡ with_fastresend (with_nodelay self nodelay nc) (resend_of self.fastresend resend) }
     {
         Settings {
-            conv: self.conv,
-            mtu: self.mtu,
-            mss: self.mss,
-            nodelay: nodelay,
+            nodelay,
             nocwnd: nc,
-            stream: self.stream,
-            input_conv: self.input_conv,
             fastresend: resend_of(self.fastresend, resend),
-            fastlimit: self.fastlimit,
-            dead_link: self.dead_link,
+            ..self
         }
     }
 }

@@ -2,13 +2,13 @@
 ghost use Rattle.std.specs.Prelude.{◌≡◌, ◌≤◌};
 ghost use Rattle.block.specs.Sizes.{within, ring_sizes, receive_sizes, send_sizes, ack_sizes};
 
-use crate::{Kcp, both};
+use crate::Kcp;
 
 // Whether x lies from `least` to `most`.
 pub fn within(least: usize, x: usize, most: usize) -> bool
     ensures { result ≡ within least x most }
 {
-    both(least <= x, x <= most)
+    least <= x && x <= most
 }
 
 // Whether these are the lengths of a ring's memory, of `least` to 1,024 slots.
@@ -16,10 +16,7 @@ fn ring_sizes(least: usize, slots: usize, width: usize, records: usize, room: us
     requires { width ≤ 9 }
     ensures { result ≡ ring_sizes least 1024 slots width records room }
 {
-    if within(least, slots, Kcp::SLOTS_MOST) {
-        return both(records == width * slots, room == Kcp::ROOM * slots);
-    }
-    false
+    within(least, slots, Kcp::SLOTS_MOST) && records == width * slots && room == Kcp::ROOM * slots
 }
 
 // Whether these are the lengths of a receive ring's memory within the limits.
@@ -47,8 +44,7 @@ pub fn ack_sizes(acks: usize, waiting: usize) -> bool
     ensures { result ≡ ack_sizes acks waiting }
 {
     let pairs = acks / Kcp::ACK_PAIR;
-    if within(Kcp::ACKS_LEAST, pairs, Kcp::ACKS_MOST) {
-        return both(acks == Kcp::ACK_PAIR * pairs, waiting == Kcp::WAITING);
-    }
-    false
+    within(Kcp::ACKS_LEAST, pairs, Kcp::ACKS_MOST)
+        && acks == Kcp::ACK_PAIR * pairs
+        && waiting == Kcp::WAITING
 }

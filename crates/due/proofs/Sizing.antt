@@ -1,7 +1,7 @@
 -- The size pass: one place, a run of places, and the two runs of a ring's indices. Assumes nothing.
 use Prim.Native.Nat.{ℕ, ◌+◌, ◌-◌, ◌/◌, ◌≤◌, ◌<◌}
 use native.Mathlib.Omega.{arith}
-use mathlib.Core.Path.{◌≡◌, refl, sym, ap, ◌∙◌}
+use mathlib.Core.Path.{◌≡◌, sym, ap, ◌∙◌}
 use mathlib.Core.Bool.{Bool, false, not}
 use mathlib.Core.List.{List, [], ◌∷◌, ◌++◌}
 use lib.ListN.{length, get_or}
@@ -57,7 +57,7 @@ grows mtu p r k e h =
     let c = ap (λ (q : Packer). q.count) e ∙ sized-count mtu p (k ∷ []) in
     (omega arith, omega (arith, cuts-few mtu p.used (k ∷ [])))
 
-module _ (pace : Pace) (mtu : ℕ) (p : Packer) (a : List ℕ) {slots : ℕ} (e : slots ≡ length a / 9) (q : ℕ) (h : q < slots) where
+module _ (pace : Pace) (mtu : ℕ) (p : Packer) (a : List ℕ) (q : ℕ) (h : q < length a / 9) where
   none : (m : Store) → goes_at pace m q ≡ false → p ≡ sized mtu p (size_at pace m q)
   unfolding size_at
   none m g = rw (pick-false (size_in m q ∷ []) [] g) (sym (sized_none mtu p))
@@ -66,14 +66,14 @@ module _ (pace : Pace) (mtu : ℕ) (p : Packer) (a : List ℕ) {slots : ℕ} (e 
   size-idle f room = none (store_of 8 (lists a room)) (goes-idle pace (store_of 8 (lists a room)) q (f room))
 
   pub size-gap : get_or a q 0 ≡ 0 → (room : List ℕ) → p ≡ sized mtu p (size_at pace (store_of 8 (lists a room)) q)
-  size-gap z room = none (store_of 8 (lists a room)) (goes-gap pace (store_of 8 (lists a room)) q (sym (mark-at a e q h room) ∙ z))
+  size-gap z room = none (store_of 8 (lists a room)) (goes-gap pace (store_of 8 (lists a room)) q (sym (mark-at a q h room) ∙ z))
 
   pub size_one : {t : Bool} → ((room : List ℕ) → t ≡ goes_out (due_of pace (record_in (store_of 8 (lists a room)) q))) → not t ≡ false → (get_or a q 0 ≡ 0 → ⊥) → {r : Packer} → r ≡ sized mtu p ((24 + (get_or a q 0 - 1)) ∷ [])
       → (room : List ℕ) → r ≡ sized mtu p (size_at pace (store_of 8 (lists a room)) q)
   unfolding size_at
   size_one {t} f n z g room =
       let m = store_of 8 (lists a room) in
-      let k = mark-at a e q h room in
+      let k = mark-at a q h room in
       g ∙ rw (k, pick_true (size_in m q ∷ []) [] (goes-live pace m q (λ y. z (k ∙ y)) ∙ sym (f room) ∙ not-false t n))
 
 -- ---- a run
@@ -97,7 +97,7 @@ module _ (mtu : ℕ) (m : Store) (q to : ℕ) (p : Packer) where
 
 -- the mark is read
 pub fresh-size : (mtu : ℕ) (p r : Packer) (a : List ℕ) (q : ℕ) → q < length a / 9 → r ≡ sized mtu p ((24 + (get_or a q 0 - 1)) ∷ []) → (room : List ℕ) → r ≡ sized mtu p (size_in (store_of 8 (lists a room)) q ∷ [])
-fresh-size mtu p r a q h e room = e ∙ rw (mark-at a refl q h room)
+fresh-size mtu p r a q h e room = e ∙ rw (mark-at a q h room)
 
 -- ---- two runs
 
@@ -129,7 +129,7 @@ module _ {r : SndRing} {a : List ℕ} (g : Rung r a) {slots : ℕ} (e : slots �
       let w = rung-numbers in
       let each : Each (λ (q : ℕ). P (get_or a q 0)) (places_of slots r.start from n) =
       places_each slots r.start (λ (q : ℕ). P (get_or a q 0)) from n
-      (λ i b d. rw (mark-at a e (place slots r.start i) (place_in slots r.start i w.1 (omega arith)) g.room) (rw slots_are at (f i b d))) in
+      (λ i b d. let l = place_in slots r.start i w.1 (omega arith) in rw (mark-at a (place slots r.start i) (omega arith) g.room) (rw slots_are at (f i b d))) in
       rw (run_all x.rest) (each_append (λ (q : ℕ). P (get_or a q 0)) (run_of x.from (x.to - x.from)) (run_of 0 x.rest) (rw c.places at each))
 
   -- those in flight, and the first k that wait, which are no gaps

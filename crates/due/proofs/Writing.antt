@@ -189,7 +189,7 @@ module _ (told : Told) (pace : Pace) (dead_link mtu : ℕ) (most : mtu ≤ 1500)
 
 -- ---- one place
 
-module _ (told : Told) (pace : Pace) (dead_link mtu : ℕ) (a room out lengths : List ℕ) (p : Packer) (t : Tally) {slots : ℕ} (e : slots ≡ length a / 9) (q : ℕ) (h : q < slots) where
+module _ (told : Told) (pace : Pace) (dead_link mtu : ℕ) (a room out lengths : List ℕ) (p : Packer) (t : Tally) (q : ℕ) (h : q < length a / 9) where
   abbrev m : Store
   m = store_of 8 (lists a room)
 
@@ -198,7 +198,7 @@ module _ (told : Told) (pace : Pace) (dead_link mtu : ℕ) (a room out lengths :
 
   module _ (f : Fits told pace mtu (q ∷ []) x) where
     k : get_or a q 0 ≡ mark_in m q
-    k = mark-at a e q h room
+    k = mark-at a q h room
 
     pieces_one : pieces_over told pace (q ∷ []) m ≡ piece_at told pace m q
     pieces_one = pieces-first told pace q [] m ∙ rw (pieces_none told pace (flown_at pace m q)) (append-nil (piece_at told pace m q))

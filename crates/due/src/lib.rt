@@ -21,57 +21,39 @@ use snd_ring::SndRing;
 use wire::Header;
 
 // Whether what stands at place q would go out, gap or not.
-fn goes(records: &[u32], slots: usize, q: usize, pace: Pace) -> bool
-    requires slots_value { slots ≡ length records.now / 9 }
-    requires q_lt_slots { q < slots }
+fn goes(records: &[u32], q: usize, pace: Pace) -> bool
+    requires q_lt_slots { q < length records.now / 9 }
     ensures { (room : List ℕ) → result ≡ goes_out (due_of pace (record_in (store_of 8 (lists records.now room)) q)) }
 {
-    let flown = flight::record_at(records, slots, q).flown_by(pace);
-    let due = flown.due;
-    due.goes_out()
+    let flown = flight::record_at(records, q).flown_by(pace);
+    flown.due.goes_out()
 }
 
 // Whether what stands at place q may go out, gap or not, by one test for each reason: few rows do, and those are looked at further.
-fn stirs(records: &[u32], slots: usize, q: usize, pace: Pace) -> bool
-    requires slots_value { slots ≡ length records.now / 9 }
-    requires q_lt_slots { q < slots }
+fn stirs(records: &[u32], q: usize, pace: Pace) -> bool
+    requires q_lt_slots { q < length records.now / 9 }
     ensures { (room : List ℕ) → result ≡ false → goes_out (due_of pace (record_in (store_of 8 (lists records.now room)) q)) ≡ false }
 {
-    let record = flight::record_at(records, slots, q);
-    if record.xmit == 0 {
-        return true;
-    }
-    if serial::not_before(pace.current, record.resendts) {
-        return true;
-    }
-    pace.resent <= record.fastack
+    let record = flight::record_at(records, q);
+    record.xmit == 0
+        || serial::not_before(pace.current, record.resendts)
+        || pace.resent <= record.fastack
 }
 
 // The segment at place q, if it goes out, by its size.
-fn size_at(
-    records: &[u32],
-    slots: usize,
-    q: usize,
-    pace: Pace,
-    mtu: usize,
-    packer: Packer,
-) -> Packer
-    requires slots_value { slots ≡ length records.now / 9 }
-    requires q_lt_slots { q < slots }
+fn size_at(records: &[u32], q: usize, pace: Pace, mtu: usize, packer: Packer) -> Packer
+    requires q_lt_slots { q < length records.now / 9 }
     requires q_bound { get_or records.now q 0 ≤ 1477 }
     requires used_bound { packer.start + packer.used + 1500 < 2 ^ 32 }
     requires count_bound { packer.count < 2 ^ 32 }
     ensures by_index { (room : List ℕ) → result ≡ sized mtu packer (size_at pace (store_of 8 (lists records.now room)) q) }
     ensures used_bound_2 { (result.start + result.used ≤ packer.start + packer.used + 1500) × (result.count ≤ packer.count + 1) }
 {
-    if !stirs(records, slots, q, pace) {
+    if !stirs(records, q, pace) {
         return packer;
     }
     let mark = records[q];
-    if mark == 0 {
-        return packer;
-    }
-    if !goes(records, slots, q, pace) {
+    if mark == 0 || !goes(records, q, pace) {
         return packer;
     }
     packer.size(mtu, wire::OVERHEAD + (mark - 1) as usize)
@@ -80,17 +62,15 @@ fn size_at(
 // The same of those at the places from `from` up to `to`.
 fn size_run(
     records: &[u32],
-    slots: usize,
     from: usize,
     to: usize,
     pace: Pace,
     mtu: usize,
     packer: Packer,
 ) -> Packer
-    requires slots_value { slots ≡ length records.now / 9 }
-    requires slots_bound { slots ≤ 65535 }
     requires from_le_to { from ≤ to }
-    requires to_le_slots { to ≤ slots }
+    requires to_in_bounds { to ≤ length records.now / 9 }
+    requires to_bound { to ≤ 65535 }
     requires each { Each (λ (q : ℕ). get_or records.now q 0 ≤ 1477) (run_of from (to - from)) }
     requires used_bound { packer.start + packer.used < 2 ^ 31 }
     requires count_bound { packer.count < 2 ^ 31 }
@@ -98,10 +78,8 @@ fn size_run(
     ensures used_bound_2 { (result.start + result.used ≤ packer.start + packer.used + 1500 * (to - from)) × (result.count ≤ packer.count + (to - from)) }
 {
     let mut p = packer;
-    let mut q = from;
-    while q < to {
-        p = size_at(records, slots, q, pace, mtu, p);
-        q += 1;
+    for q in from..to {
+        p = size_at(records, q, pace, mtu, p);
     }
     p
 }
@@ -116,8 +94,8 @@ pub fn due_sizes(ring: SndRing, records: &[u32], pace: Pace, mtu: usize, packer:
 {
     let slots = snd_ring::slots_in(records.len());
     let runs = flight::runs_of(slots, ring.start as usize, 0, ring.reach as usize);
-    let p = size_run(records, slots, runs.from, runs.to, pace, mtu, packer);
-    size_run(records, slots, 0, runs.rest, pace, mtu, p)
+    let p = size_run(records, runs.from, runs.to, pace, mtu, packer);
+    size_run(records, 0, runs.rest, pace, mtu, p)
 }
 
 // The segments at the places from `from` up to `to`, which leave the queue and so go out as fresh, by their sizes.
@@ -132,10 +110,8 @@ fn fresh_run(records: &[u32], from: usize, to: usize, mtu: usize, packer: Packer
     ensures used_bound_2 { (result.start + result.used ≤ packer.start + packer.used + 1500 * (to - from)) × (result.count ≤ packer.count + (to - from)) }
 {
     let mut p = packer;
-    let mut q = from;
-    while q < to {
+    for q in from..to {
         p = p.size(mtu, wire::OVERHEAD + (records[q] - 1) as usize);
-        q += 1;
     }
     p
 }
@@ -173,46 +149,51 @@ pub struct Written {
     pub tally: Tally,
 }
 
+// What a flush goes by at each place: what its headers tell, what decides whether a segment goes out, how often one is sent before the link is dead, and
+// the most bytes of a datagram.
+#[derive(Clone, Copy)]
+pub struct Way {
+    pub told: Told,
+    pub pace: Pace,
+    pub dead_link: u32,
+    pub mtu: usize,
+}
+
 // The segment at place q, if it goes out: its bytes behind those that are there, the length of the datagram that goes out before it, if one does, its
 // row afterwards, and what is counted of it. The row of one that does not go out stays.
 fn write_at(
     records: &mut [u32],
     room: &[u8],
-    slots: usize,
     q: usize,
-    pace: Pace,
-    told: Told,
-    dead_link: u32,
-    mtu: usize,
+    way: Way,
     out: &mut [u8],
     lengths: &mut [u16],
-    packer: Packer,
-    tally: Tally,
+    before: Written,
 ) -> Written
-    requires slots_value { slots ≡ length records.old / 9 }
-    requires q_lt_slots { q < slots }
-    requires fits { Fits told pace mtu (q ∷ []) (pass (store_of 8 (lists records.old room.now)) out.old lengths.old packer tally) }
+    requires q_lt_slots { q < length records.old / 9 }
+    requires fits { Fits way.told way.pace way.mtu (q ∷ []) (pass (store_of 8 (lists records.old room.now)) out.old lengths.old before.packer before.tally) }
     ensures { pass (store_of 8 (lists records.new room.now)) out.new lengths.new result.packer result.tally
-        ≡ pass_over told pace dead_link mtu (q ∷ []) (pass (store_of 8 (lists records.old room.now)) out.old lengths.old packer tally) }
+        ≡ pass_over way.told way.pace way.dead_link way.mtu (q ∷ []) (pass (store_of 8 (lists records.old room.now)) out.old lengths.old before.packer before.tally) }
 {
-    let flown = flight::record_at(records, slots, q).flown_by(pace);
+    let flown = flight::record_at(records, q).flown_by(way.pace);
     let due = flown.due;
     if !due.goes_out() {
-        return Written { packer, tally };
+        return before;
     }
     let mark = records[q];
     if mark == 0 {
-        return Written { packer, tally };
+        return before;
     }
     let after = flown.after;
     let n = (mark - 1) as usize;
+    let packer = before.packer;
     let at = packer.start + packer.used;
-    put_piece(told.push_head(after, mark - 1), room, q, n, out, at);
-    flight::put_record_at(records, slots, q, after);
-    let further = packer.cut(mtu, wire::OVERHEAD + n, lengths);
+    put_piece(way.told.push_head(after, mark - 1), room, q, n, out, at);
+    flight::put_record_at(records, q, after);
+    let further = packer.cut(way.mtu, wire::OVERHEAD + n, lengths);
     Written {
         packer: further,
-        tally: tally.with_sent(dead_link, due, after.xmit),
+        tally: before.tally.with_sent(way.dead_link, due, after.xmit),
     }
 }
 
@@ -220,33 +201,23 @@ fn write_at(
 fn write_run(
     records: &mut [u32],
     room: &[u8],
-    slots: usize,
     from: usize,
     to: usize,
-    pace: Pace,
-    told: Told,
-    dead_link: u32,
-    mtu: usize,
+    way: Way,
     out: &mut [u8],
     lengths: &mut [u16],
-    packer: Packer,
-    tally: Tally,
+    before: Written,
 ) -> Written
-    requires slots_value { slots ≡ length records.old / 9 }
     requires from_le_to { from ≤ to }
-    requires to_le_slots { to ≤ slots }
-    requires mtu_bound { mtu ≤ 1500 }
-    requires fits { Fits told pace mtu (run_of from (to - from)) (pass (store_of 8 (lists records.old room.now)) out.old lengths.old packer tally) }
+    requires to_in_bounds { to ≤ length records.old / 9 }
+    requires mtu_bound { way.mtu ≤ 1500 }
+    requires fits { Fits way.told way.pace way.mtu (run_of from (to - from)) (pass (store_of 8 (lists records.old room.now)) out.old lengths.old before.packer before.tally) }
     ensures { pass (store_of 8 (lists records.new room.now)) out.new lengths.new result.packer result.tally
-        ≡ pass_over told pace dead_link mtu (run_of from (to - from)) (pass (store_of 8 (lists records.old room.now)) out.old lengths.old packer tally) }
+        ≡ pass_over way.told way.pace way.dead_link way.mtu (run_of from (to - from)) (pass (store_of 8 (lists records.old room.now)) out.old lengths.old before.packer before.tally) }
 {
-    let mut w = Written { packer, tally };
-    let mut q = from;
-    while q < to {
-        w = write_at(
-            records, room, slots, q, pace, told, dead_link, mtu, out, lengths, w.packer, w.tally,
-        );
-        q += 1;
+    let mut w = before;
+    for q in from..to {
+        w = write_at(records, room, q, way, out, lengths, w);
     }
     w
 }
@@ -273,12 +244,13 @@ pub fn due_write(
 {
     let slots = snd_ring::slots_in(records.len());
     let runs = flight::runs_of(slots, ring.start as usize, 0, ring.reach as usize);
-    let w = write_run(
-        records, room, slots, runs.from, runs.to, pace, told, dead_link, mtu, out, lengths, packer,
-        tally,
-    );
-    write_run(
-        records, room, slots, 0, runs.rest, pace, told, dead_link, mtu, out, lengths, w.packer,
-        w.tally,
-    )
+    let way = Way {
+        told,
+        pace,
+        dead_link,
+        mtu,
+    };
+    let start = Written { packer, tally };
+    let w = write_run(records, room, runs.from, runs.to, way, out, lengths, start);
+    write_run(records, room, 0, runs.rest, way, out, lengths, w)
 }

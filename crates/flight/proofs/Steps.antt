@@ -42,8 +42,8 @@ module _ (a : List ℕ) {slots : ℕ} (e : slots ≡ length a / 9) (room : List 
   runs_by {r} c = places_by ∙ c.places ∙ ap (λ (l : List ℕ). run_of r.from (r.to - r.from) ++ l) (sym (run_all r.rest))
 
 -- the mark that is read at place q
-pub mark-at : (a : List ℕ) {slots : ℕ} → slots ≡ length a / 9 → (q : ℕ) → q < slots → (room : List ℕ) → get_or a q 0 ≡ get_or (store_of 8 (lists a room)).marks q 0
-mark-at a e q h room = mark-read 8 a room q 0 (omega arith)
+pub mark-at : (a : List ℕ) (q : ℕ) → q < length a / 9 → (room : List ℕ) → get_or a q 0 ≡ get_or (store_of 8 (lists a room)).marks q 0
+mark-at a q h room = mark-read 8 a room q 0 h
 
 -- ---- `launch`
 
@@ -69,12 +69,12 @@ module _ (conv current rx_rto : ℕ) (p s from k i sn : ℕ) (m : Store) where
 pub launch_all : (conv current rx_rto p s from k sn : ℕ) (m : Store) → launched_over conv current rx_rto sn (places_of p s (from + 0) (k - 0)) m ≡ launched_over conv current rx_rto sn (places_of p s from k) m
 launch_all conv current rx_rto p s from k sn m = let e : from + 0 ≡ from = omega arith in let f : k - 0 ≡ k = omega arith in rw (e, f)
 
-pub launch-done : (conv current rx_rto k : ℕ) (s : Sender) (a : List ℕ) {slots : ℕ} → slots ≡ length a / 9 → (room : List ℕ) {m : Store}
-    → m ≡ launched_over conv current rx_rto s.snd_nxt (places_of slots s.ring.start s.ring.reach k) (store_of 8 (lists a room)) → {x : ℕ} → x ≡ add32 s.snd_nxt k
+pub launch-done : (conv current rx_rto k : ℕ) (s : Sender) (a room : List ℕ) {m : Store}
+    → m ≡ launched_over conv current rx_rto s.snd_nxt (places_of (length a / 9) s.ring.start s.ring.reach k) (store_of 8 (lists a room)) → {x : ℕ} → x ≡ add32 s.snd_nxt k
     → side (record { snd_una = s.snd_una; snd_nxt = x; ring = ring s.ring.start (s.ring.reach + k) (s.ring.flying + k) (s.ring.unsent - k); xmit = s.xmit; dead = s.dead }) m
     ≡ launched_at conv current rx_rto k s (store_of 8 (lists a room))
 unfolding launched_at launched_sender
-launch-done conv current rx_rto k s a e room f g = rw (f, g, places_by a e room s.ring.start s.ring.reach k)
+launch-done conv current rx_rto k s a room f g = rw (f, g, places_by a refl room s.ring.start s.ring.reach k)
 
 -- ---- `tm_packet`
 
@@ -95,15 +95,15 @@ module _ (current : ℕ) where
       of zero tm h = omega arith
       of (suc n) tm h = rw (lt-ltb 0 (suc n) (omega arith)) (omega arith)
 
-  module _ (a : List ℕ) {slots : ℕ} (e : slots ≡ length a / 9) (q : ℕ) (h : q < slots) (tm : ℕ) where
+  module _ (a : List ℕ) (q : ℕ) (h : q < length a / 9) (tm : ℕ) where
     pub tm-gap : get_or a q 0 ≡ 0 → (room : List ℕ) → tm ≡ tm_packet current (resendts_at (store_of 8 (lists a room)) q) tm
     unfolding tm_packet
-    tm-gap z room = rw (resendts-gap (store_of 8 (lists a room)) q (sym (mark-at a e q h room) ∙ z))
+    tm-gap z room = rw (resendts-gap (store_of 8 (lists a room)) q (sym (mark-at a q h room) ∙ z))
 
     pub tm-live : (get_or a q 0 ≡ 0 → ⊥) → {x : ℕ} → x ≡ number_at 8 (store_of 8 (lists a [])).rows q resendts → {r : ℕ} → r ≡ nearest current x tm
         → (room : List ℕ) → r ≡ tm_packet current (resendts_at (store_of 8 (lists a room)) q) tm
     unfolding tm_packet record_in
-    tm-live z f g room = rw (resendts-live (store_of 8 (lists a room)) q (λ y. z (mark-at a e q h room ∙ y)), g, f, rows-room a [] room)
+    tm-live z f g room = rw (resendts-live (store_of 8 (lists a room)) q (λ y. z (mark-at a q h room ∙ y)), g, f, rows-room a [] room)
 
     -- a segment that is to be resent then, gap or not
     tm-later : current < 4294967296 → {x : ℕ} → x ≡ number_at 8 (store_of 8 (lists a [])).rows q resendts → {y : ℕ} → y ≡ sub32 x (add32 current tm) → y < 2147483648 - tm

@@ -5,7 +5,7 @@ ghost use Rattle.std.specs.Prelude.{◌≡◌, List, ℕ, ◌+◌, ◌/◌, ◌�
 ghost use Rattle.ring.specs.Lists.{lists};
 ghost use Rattle.snd_ring.specs.Store.{store_of};
 ghost use Rattle.transmit.specs.Memory.{side};
-ghost use Rattle.transmit.specs.Fits.{Lies};
+ghost use Rattle.transmit.specs.Fits.{Lies, Inside};
 ghost use Rattle.flushing.specs.Clocks.{tm_packet};
 ghost use Rattle.flushing.specs.Due.{numbered};
 ghost use Rattle.flight.specs.Places.{places_of, run_of, Covers};
@@ -14,47 +14,29 @@ ghost use Rattle.flight.specs.Memory.{record_in, renewed_at, flight_places, laun
 use block::sender::Sender;
 use flushing::clock::nearest;
 use flushing::due::Record;
+use sending::column::{CONV, FASTACK, FRG, RESENDTS, RTO, SN, TS, XMIT};
 use snd_ring::SndRing;
 
-// The columns of a row.
-const CONV: usize = 0;
-
-const FRG: usize = 1;
-
-const SN: usize = 2;
-
-const TS: usize = 3;
-
-const RESENDTS: usize = 4;
-
-const RTO: usize = 5;
-
-const FASTACK: usize = 6;
-
-const XMIT: usize = 7;
-
-// The row at place q, of so many slots.
-pub fn record_at(records: &[u32], slots: usize, q: usize) -> Record
-    requires slots_value { slots ≡ length records.now / 9 }
-    requires q_lt_slots { q < slots }
+// The row at place q.
+pub fn record_at(records: &[u32], q: usize) -> Record
+    requires q_lt_slots { q < length records.now / 9 }
     ensures { (room : List ℕ) → result ≡ record_in (store_of 8 (lists records.now room)) q }
 {
     Record {
-        conv: snd_ring::number_at(records, slots, q, CONV),
-        frg: snd_ring::number_at(records, slots, q, FRG),
-        sn: snd_ring::number_at(records, slots, q, SN),
-        ts: snd_ring::number_at(records, slots, q, TS),
-        resendts: snd_ring::number_at(records, slots, q, RESENDTS),
-        rto: snd_ring::number_at(records, slots, q, RTO),
-        fastack: snd_ring::number_at(records, slots, q, FASTACK),
-        xmit: snd_ring::number_at(records, slots, q, XMIT),
+        conv: snd_ring::number_at(records, q, CONV),
+        frg: snd_ring::number_at(records, q, FRG),
+        sn: snd_ring::number_at(records, q, SN),
+        ts: snd_ring::number_at(records, q, TS),
+        resendts: snd_ring::number_at(records, q, RESENDTS),
+        rto: snd_ring::number_at(records, q, RTO),
+        fastack: snd_ring::number_at(records, q, FASTACK),
+        xmit: snd_ring::number_at(records, q, XMIT),
     }
 }
 
 // The row at place q becomes that of the record; every other number stays.
-pub fn put_record_at(records: &mut [u32], slots: usize, q: usize, record: Record)
-    requires slots_value { slots ≡ length records.old / 9 }
-    requires q_lt_slots { q < slots }
+pub fn put_record_at(records: &mut [u32], q: usize, record: Record)
+    requires q_lt_slots { q < length records.old / 9 }
     ensures { (room : List ℕ) → store_of 8 (lists records.new room) ≡ renewed_at (store_of 8 (lists records.old room)) q «record» }
 {
     let row = [
@@ -67,6 +49,7 @@ pub fn put_record_at(records: &mut [u32], slots: usize, q: usize, record: Record
         record.fastack,
         record.xmit,
     ];
+    let slots = snd_ring::slots_in(records.len());
     ring::put_record(&mut records[slots..], q, &row);
 }
 
@@ -101,57 +84,30 @@ pub fn runs_of(slots: usize, start: usize, from: usize, n: usize) -> Runs
     }
 }
 
-// The segment at place q, which leaves the queue, gets its number.
-fn launch_one(
-    records: &mut [u32],
-    slots: usize,
-    q: usize,
-    conv: u32,
-    sn: u32,
-    current: u32,
-    rx_rto: u32,
-)
-    requires slots_value { slots ≡ length records.old / 9 }
-    requires q_lt_slots { q < slots }
-    ensures { (room : List ℕ) → store_of 8 (lists records.new room)
-        ≡ renewed_at (store_of 8 (lists records.old room)) q (numbered conv sn current rx_rto (record_in (store_of 8 (lists records.old room)) q)) }
-{
-    let record = record_at(records, slots, q);
-    put_record_at(
-        records,
-        slots,
-        q,
-        record.numbered(conv, sn, current, rx_rto),
-    );
-}
-
-// The same of the first k that wait, the first of them numbered snd_nxt.
+// The first k that wait, which leave the queue, get their numbers, the first of them snd_nxt.
 fn launch_rows(
     ring: SndRing,
     records: &mut [u32],
-    slots: usize,
     k: usize,
     conv: u32,
     snd_nxt: u32,
     current: u32,
     rx_rto: u32,
 )
-    requires slots_value { slots ≡ length records.old / 9 }
-    requires slots_bound { slots ≤ 65535 }
-    requires start_lt_slots { ring.start < slots }
-    requires k_bound { ring.reach + k ≤ slots }
+    requires inside { Inside ring records.old }
+    requires k_bound { ring.reach + k ≤ length records.old / 9 }
     ensures { (room : List ℕ) → store_of 8 (lists records.new room)
-        ≡ launched_over conv current rx_rto snd_nxt (places_of slots ring.start ring.reach k) (store_of 8 (lists records.old room)) }
+        ≡ launched_over conv current rx_rto snd_nxt (places_of (length records.old / 9) ring.start ring.reach k) (store_of 8 (lists records.old room)) }
 {
+    let slots = snd_ring::slots_in(records.len());
     let start = ring.start as usize;
     let reach = ring.reach as usize;
     let mut sn = snd_nxt;
-    let mut i = 0;
-    while i < k {
+    for i in 0..k {
         let q = ring::place_of(slots, start, reach + i);
-        launch_one(records, slots, q, conv, sn, current, rx_rto);
-        sn = serial::add(sn, 1);
-        i += 1;
+        let record = record_at(records, q);
+        put_record_at(records, q, record.numbered(conv, sn, current, rx_rto));
+        sn = sn.wrapping_add(1);
     }
 }
 
@@ -170,11 +126,9 @@ pub fn launch(
         ≡ launched_at conv current rx_rto k sender (store_of 8 (lists records.old room)) }
 {
     let ring = sender.ring;
-    let slots = snd_ring::slots_in(records.len());
     launch_rows(
         ring,
         records,
-        slots,
         k as usize,
         conv,
         sender.snd_nxt,
@@ -182,33 +136,26 @@ pub fn launch(
         rx_rto,
     );
     Sender {
-        snd_una: sender.snd_una,
-        snd_nxt: serial::add(sender.snd_nxt, k),
+        snd_nxt: sender.snd_nxt.wrapping_add(k),
         ring: SndRing {
-            start: ring.start,
             reach: ring.reach + k,
             flying: ring.flying + k,
             unsent: ring.unsent - k,
+            ..ring
         },
-        xmit: sender.xmit,
-        dead: sender.dead,
+        ..sender
     }
 }
 
 // The wait for the segments, with that at place q; a gap is passed over.
-fn tm_at(records: &[u32], slots: usize, q: usize, current: u32, tm: u32) -> u32
-    requires slots_value { slots ≡ length records.now / 9 }
-    requires q_lt_slots { q < slots }
+fn tm_at(records: &[u32], q: usize, current: u32, tm: u32) -> u32
+    requires q_lt_slots { q < length records.now / 9 }
     ensures { (room : List ℕ) → result ≡ tm_packet current (resendts_at (store_of 8 (lists records.now room)) q) tm }
 {
     if records[q] == 0 {
         return tm;
     }
-    nearest(
-        current,
-        snd_ring::number_at(records, slots, q, RESENDTS),
-        tm,
-    )
+    nearest(current, snd_ring::number_at(records, q, RESENDTS), tm)
 }
 
 // A wait, the time when it is over, and how many times there are from then on before those that are past.
@@ -223,10 +170,7 @@ pub struct Reckoning {
 fn ahead_of(tm: u32) -> u32
     ensures { result ≡ 2147483648 - tm }
 {
-    if tm < 0x8000_0000 {
-        return 0x8000_0000 - tm;
-    }
-    0
+    0x8000_0000u32.saturating_sub(tm)
 }
 
 // The reckoning of a wait.
@@ -234,51 +178,45 @@ fn reckoned(current: u32, tm: u32) -> Reckoning
     ensures { result ≡ reckoned_of current tm }
 {
     Reckoning {
-        tm: tm,
-        until: serial::add(current, tm),
+        tm,
+        until: current.wrapping_add(tm),
         ahead: ahead_of(tm),
     }
 }
 
 // The same as tm_at of a wait that is reckoned: a segment that is to be resent when the wait is over or later leaves it by one test, gap or not.
-fn tm_step(records: &[u32], slots: usize, q: usize, current: u32, w: Reckoning) -> Reckoning
-    requires slots_value { slots ≡ length records.now / 9 }
-    requires q_lt_slots { q < slots }
+fn tm_step(records: &[u32], q: usize, current: u32, w: Reckoning) -> Reckoning
+    requires q_lt_slots { q < length records.now / 9 }
     requires w_value { w ≡ reckoned_of current w.tm }
     ensures { (room : List ℕ) → result ≡ reckoned_of current (tm_packet current (resendts_at (store_of 8 (lists records.now room)) q) w.tm) }
 {
-    let resendts = snd_ring::number_at(records, slots, q, RESENDTS);
-    if serial::sub(resendts, w.until) < w.ahead {
+    let resendts = snd_ring::number_at(records, q, RESENDTS);
+    if resendts.wrapping_sub(w.until) < w.ahead {
         return w;
     }
-    reckoned(current, tm_at(records, slots, q, current, w.tm))
+    reckoned(current, tm_at(records, q, current, w.tm))
 }
 
 // The same with those at the places from `from` up to `to`.
-fn tm_run(records: &[u32], slots: usize, from: usize, to: usize, current: u32, tm: u32) -> u32
-    requires slots_value { slots ≡ length records.now / 9 }
+fn tm_run(records: &[u32], from: usize, to: usize, current: u32, tm: u32) -> u32
     requires from_le_to { from ≤ to }
-    requires to_le_slots { to ≤ slots }
+    requires to_le_slots { to ≤ length records.now / 9 }
     ensures { (room : List ℕ) → result ≡ tm_packet current (resendts_over (run_of from (to - from)) (store_of 8 (lists records.now room))) tm }
 {
     let mut w = reckoned(current, tm);
-    let mut q = from;
-    while q < to {
-        w = tm_step(records, slots, q, current, w);
-        q += 1;
+    for q in from..to {
+        w = tm_step(records, q, current, w);
     }
     w.tm
 }
 
 // How long check waits for the segments in flight, and at most tm.
 pub fn tm_packet(ring: SndRing, records: &[u32], current: u32, tm: u32) -> u32
-    requires records_len_bound { length records.now / 9 ≤ 65535 }
-    requires start_in_bounds { ring.start < length records.now / 9 }
-    requires reach_in_bounds { ring.reach ≤ length records.now / 9 }
+    requires { Inside ring records.now }
     ensures { (room : List ℕ) → result ≡ tm_packet current (resendts_over (flight_places ring (store_of 8 (lists records.now room))) (store_of 8 (lists records.now room))) tm }
 {
     let slots = snd_ring::slots_in(records.len());
     let runs = runs_of(slots, ring.start as usize, 0, ring.reach as usize);
-    let least = tm_run(records, slots, runs.from, runs.to, current, tm);
-    tm_run(records, slots, 0, runs.rest, current, least)
+    let least = tm_run(records, runs.from, runs.to, current, tm);
+    tm_run(records, 0, runs.rest, current, least)
 }

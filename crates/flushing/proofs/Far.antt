@@ -47,9 +47,9 @@ before d h = rw (le-ltb d (2 ^ 31) h) (of (leb d 4294957295) refl)
 -- ---- of the two times
 
 module _ (current ts_flush : ℕ) where
-  pub far-near : (past : ℕ) → past ≡ sub32 current ts_flush → past < 10000 → false ≡ far current ts_flush
+  pub far-near : (past : ℕ) → past ≡ sub32 current ts_flush → past < 10000 → leb 10000 past ≡ far current ts_flush
   unfolding far slap
-  far-near past e h = sym (slap-halves (sub32 current ts_flush) ∙ rw (← e) (near past h))
+  far-near past e h = lt-leb 10000 past h ∙ sym (slap-halves (sub32 current ts_flush) ∙ rw (← e) (near past h))
 
   pub far_off : (past : ℕ) → past ≡ sub32 current ts_flush → 10000 ≤ past → leb past 4294957295 ≡ far current ts_flush
   unfolding far slap

@@ -1,5 +1,5 @@
 -- The rules of the way out on closed cases: 01's starred rows, and what the Rust was seen to do. Assumes nothing.
-use Rattle.std.specs.Prelude.{ℕ, zero, suc, ◌≡◌, refl, Bool, true, false, List, [], ◌∷◌, ◌++◌, map, length}
+use Rattle.std.specs.Prelude.{ℕ, zero, suc, ◌≡◌, refl, Bool, true, false, List, [], ◌∷◌, ◌++◌, map, length, Ok, Err}
 use Rattle.serial.specs.Branch.{pick}
 use Rattle.serial.specs.Wrap.{signed32}
 use Rattle.wire.specs.Header.{header_bytes}
@@ -8,7 +8,6 @@ use Rattle.block.specs.declared.clock.Clock.{Clock}
 use Rattle.block.specs.declared.congestion.Congestion.{Congestion}
 use Rattle.block.specs.declared.probe.Probe.{Probe}
 use Rattle.block.specs.declared.refusal.Refusal.TheVariants.{NeedUpdate, OutTooSmall}
-use Rattle.block.specs.declared.refusal.Answer.TheVariants.{Done, Refused}
 use Rattle.block.specs.Fresh.{fresh_settings, fresh_clock, fresh_congestion, fresh_probe}
 use Rattle.sending.specs.Rules.{Segment, Sending}
 use Rattle.sending.specs.Send.{verdict, fills, joins, pieces, needed, cut, last_of, filled, queued, left_by, send}
@@ -201,11 +200,11 @@ hi-row = (refl, refl, refl, refl, refl)
 narrow : ℕ → ℕ → Room
 narrow bytes lengths = record { bytes = bytes; lengths = lengths }
 
-tight : (update_rule (narrow 25 64) 100 first.after ≡ record { answer = Refused OutTooSmall; after = first.after; datagrams = [] })
-    × (update_rule (narrow 26 0) 100 first.after ≡ record { answer = Refused OutTooSmall; after = first.after; datagrams = [] })
+tight : (update_rule (narrow 25 64) 100 first.after ≡ record { answer = Err OutTooSmall; after = first.after; datagrams = [] })
+    × (update_rule (narrow 26 0) 100 first.after ≡ record { answer = Err OutTooSmall; after = first.after; datagrams = [] })
     × (update_rule (narrow 26 1) 100 first.after ≡ second)
-    × (flush_rule room hi ≡ record { answer = Refused NeedUpdate; after = hi; datagrams = [] })
-    × (flush_ack_rule room hi ≡ record { answer = Refused NeedUpdate; after = hi; datagrams = [] })
+    × (flush_rule room hi ≡ record { answer = Err NeedUpdate; after = hi; datagrams = [] })
+    × (flush_ack_rule room hi ≡ record { answer = Err NeedUpdate; after = hi; datagrams = [] })
 unfolding room narrow blank block hi first second resends update_rule once_updated unless_exceeding exceeds sum_of ticked due_from restarted far signed32 next_flush flushed_ack flushed window_of probe_wnd_size probed ask_bit leaving moved_out numbered_from pace_of rtomin_of resent_of due_pieces due_of resends_fast sent_as longer_rto flown_by tallied with_sent dies congestion_after resent_fast timed_out at_least_one pack_all pack goes stays datagram_of pick header_bytes probe_piece last_ack_of send left_by verdict queued filled needed joins fills pieces cut last_of
 tight = (refl, refl, refl, refl, refl)
 
@@ -230,10 +229,10 @@ waits_one = record { conv = 0; frg = 0; sn = 0; ts = 0; resendts = 0; rto = 0; f
 unready : Outgoing
 unready = block (quiet 1) (fresh_clock 100) fresh_congestion fresh_probe 0 0 (record { una = 0; next = 0; flying = []; waiting = waits_one ∷ [] }) []
 
-unmoved : (update_rule (narrow 24 1) 7 unready ≡ record { answer = Refused OutTooSmall; after = unready; datagrams = [] })
-    × ((update_rule (narrow 25 1) 7 unready).answer ≡ Done)
+unmoved : (update_rule (narrow 24 1) 7 unready ≡ record { answer = Err OutTooSmall; after = unready; datagrams = [] })
+    × ((update_rule (narrow 25 1) 7 unready).answer ≡ Ok tt)
     × ((update_rule (narrow 25 1) 7 unready).datagrams ≡ (head 1 81 128 7 0 0 1 ++ (98 ∷ [])) ∷ [])
-    × ((flush_rule (narrow 25 1) unready).answer ≡ Refused NeedUpdate)
+    × ((flush_rule (narrow 25 1) unready).answer ≡ Err NeedUpdate)
 unfolding narrow block quiet clock congestion waits_one unready head update_rule once_updated unless_exceeding exceeds sum_of ticked due_from restarted far signed32 next_flush flushed_ack flushed window_of probe_wnd_size probed ask_bit leaving moved_out numbered_from pace_of rtomin_of resent_of due_pieces due_of resends_fast sent_as longer_rto flown_by tallied with_sent dies congestion_after resent_fast timed_out at_least_one pack_all pack goes stays datagram_of pick header_bytes probe_piece last_ack_of
 unmoved = (refl, refl, refl, refl)
 

@@ -1,6 +1,6 @@
 -- `flush_ack`, `flush`, `update` and `check` over lists of segments: "As `flush`, `flush_ack`, `update` and `check`, with datagrams put end to end in
 -- lent bytes and their lengths in a lent list"; "flush_ack leaves its last bytes waiting"; refusals 9 and 13. Assumes nothing.
-use Rattle.std.specs.Prelude.{ℕ, Bool, false, ◌||◌, List, [], ◌++◌, map, length, take, drop, ltb}
+use Rattle.std.specs.Prelude.{ℕ, Bool, false, ◌||◌, List, [], ◌++◌, map, length, take, drop, ltb, Result, Ok, Err}
 use Rattle.serial.specs.Branch.{pick}
 use Rattle.serial.specs.Wrap.{add32, sub32}
 use Rattle.block.specs.declared.settings.Settings.{Settings}
@@ -9,8 +9,6 @@ use Rattle.block.specs.declared.congestion.Congestion.{Congestion}
 use Rattle.block.specs.declared.probe.Probe.{Probe}
 use Rattle.block.specs.declared.refusal.Refusal.{Refusal}
 use Rattle.block.specs.declared.refusal.Refusal.TheVariants.{NeedUpdate, OutTooSmall}
-use Rattle.block.specs.declared.refusal.Answer.{Answer}
-use Rattle.block.specs.declared.refusal.Answer.TheVariants.{Done, Refused}
 use Rattle.sending.specs.Rules.{Segment, Sending, with_flying}
 use Rattle.flushing.specs.declared.due.Pace.{Pace}
 use Rattle.flushing.specs.declared.due.Tally.{Tally}
@@ -162,20 +160,20 @@ exceeds room sizes = ltb room.bytes (sum_of sizes) || ltb room.lengths (length s
 
 -- an answer, the block afterwards, and the datagrams
 pub record Outcome : Type 0 where
-  pub answer : Answer
+  pub answer : Result Unit Refusal
   pub after : Outgoing
   pub datagrams : List (List ℕ)
 
 -- refused: "all as it was"
 abbrev pub refused : Refusal → Outgoing → Outcome
-refused why o = record { answer = Refused why; after = o; datagrams = [] }
+refused why o = record { answer = Err why; after = o; datagrams = [] }
 
 -- what a call makes of the block o, unless it is more than is lent: then o, "clock too"
 unfoldable pub unless_exceeding : Room → Outgoing → Flushed → Outcome
 unless_exceeding room o f =
     pick (exceeds room (map length f.datagrams))
     (refused OutTooSmall o)
-    (record { answer = Done; after = f.after; datagrams = f.datagrams })
+    (record { answer = Ok tt; after = f.after; datagrams = f.datagrams })
 
 -- "9 | flush or flush_ack before any update", and "9 before 13"
 unfoldable pub once_updated : Room → Outgoing → Flushed → Outcome
@@ -192,7 +190,7 @@ unfoldable pub update_rule : Room → ℕ → Outgoing → Outcome
 update_rule room current o =
     let t = ticked o.clock current in
     let now = on_clock o t.clock in
-    pick t.flushes (unless_exceeding room o (flushed now)) (record { answer = Done; after = now; datagrams = [] })
+    pick t.flushes (unless_exceeding room o (flushed now)) (record { answer = Ok tt; after = now; datagrams = [] })
 
 -- the wait until the next update; waiting bytes are not asked for
 abbrev pub check_rule : ℕ → Outgoing → ℕ

@@ -18,14 +18,12 @@ const FAR: u32 = 10_000;
 fn far(current: u32, ts_flush: u32) -> bool
     ensures { result ≡ far current ts_flush }
 {
-    let past = serial::sub(current, ts_flush);
-    if past < FAR {
-        return false;
-    }
-    past <= u32::MAX - FAR
+    let past = current.wrapping_sub(ts_flush);
+    FAR <= past && past <= u32::MAX - FAR
 }
 
 // The next flush, or now where it is far.
+#[tactic(auto, unfolding(crate::specs::Clocks::restarted, serial::specs::Branch::pick))]
 fn restarted(current: u32, ts_flush: u32) -> u32
     ensures { result ≡ restarted current ts_flush }
 {
@@ -37,55 +35,55 @@ fn restarted(current: u32, ts_flush: u32) -> u32
 }
 
 // Since when a flush is due: now, if this is the first update.
+#[tactic(auto, unfolding(crate::specs::Clocks::due_from, serial::specs::Branch::pick))]
 fn due_from(clock: Clock, current: u32) -> u32
     ensures { result ≡ due_from clock current }
 {
-    if clock.updated {
-        return restarted(current, clock.ts_flush);
-    }
-    restarted(current, current)
+    let due = if clock.updated {
+        clock.ts_flush
+    } else {
+        current
+    };
+    restarted(current, due)
 }
 
 // The flush behind one that runs now: an interval later than that was due, or than now, if that is past.
+#[tactic(auto, unfolding(crate::specs::Clocks::next_flush, serial::specs::Branch::pick))]
 fn next_flush(current: u32, interval: u32, ts_flush: u32) -> u32
     ensures { result ≡ next_flush current interval ts_flush }
 {
-    let next = serial::add(ts_flush, interval);
+    let next = ts_flush.wrapping_add(interval);
     if serial::not_before(current, next) {
-        return serial::add(current, interval);
+        return current.wrapping_add(interval);
     }
     next
 }
 
 // The clock of an update, and whether a flush runs.
+#[tactic(auto, unfolding(crate::specs::Clocks::ticked, serial::specs::Branch::pick))]
 pub fn ticked(clock: Clock, current: u32) -> Tick
     ensures { result ≡ ticked clock current }
 {
     let from = due_from(clock, current);
-    let interval = clock.interval;
-    if serial::not_before(current, from) {
-        return Tick {
-            clock: Clock {
-                current: current,
-                interval: interval,
-                ts_flush: next_flush(current, interval, from),
-                updated: true,
-            },
-            flushes: true,
-        };
-    }
+    let flushes = serial::not_before(current, from);
+    let ts_flush = if flushes {
+        next_flush(current, clock.interval, from)
+    } else {
+        from
+    };
     Tick {
         clock: Clock {
-            current: current,
-            interval: interval,
-            ts_flush: from,
+            current,
+            ts_flush,
             updated: true,
+            ..clock
         },
-        flushes: false,
+        flushes,
     }
 }
 
 // The wait for the next flush: none before the first update, and where one is due.
+#[tactic(auto, unfolding(crate::specs::Clocks::tm_flush, serial::specs::Branch::pick))]
 pub fn tm_flush(clock: Clock, current: u32) -> u32
     ensures { result ≡ tm_flush clock current }
 {
@@ -94,17 +92,18 @@ pub fn tm_flush(clock: Clock, current: u32) -> u32
         if serial::not_before(current, from) {
             return 0;
         }
-        return serial::sub(from, current);
+        return from.wrapping_sub(current);
     }
     0
 }
 
 // The wait for the segments, with one more: none where it is due.
+#[tactic(auto, unfolding(crate::specs::Clocks::nearest, serial::specs::Branch::pick))]
 pub fn nearest(current: u32, resendts: u32, tm_packet: u32) -> u32
     ensures { result ≡ nearest current resendts tm_packet }
 {
     if serial::after(resendts, current) {
-        return serial::least(serial::sub(resendts, current), tm_packet);
+        return resendts.wrapping_sub(current).min(tm_packet);
     }
     0
 }
@@ -113,5 +112,5 @@ pub fn nearest(current: u32, resendts: u32, tm_packet: u32) -> u32
 pub fn wait_of(interval: u32, tm_packet: u32, tm_flush: u32) -> u32
     ensures { result ≡ wait_of interval tm_packet tm_flush }
 {
-    serial::least(serial::least(tm_packet, tm_flush), interval)
+    tm_packet.min(tm_flush).min(interval)
 }

@@ -55,6 +55,7 @@ pub struct Tally {
 }
 
 // How much longer than its timeout a fresh segment waits: an eighth, or nothing without delay.
+#[tactic(auto, unfolding(crate::specs::Due::rtomin_of, serial::specs::Branch::pick))]
 fn rtomin_of(nodelay: bool, rx_rto: u32) -> u32
     ensures { result ≡ rtomin_of nodelay rx_rto }
 {
@@ -62,12 +63,13 @@ fn rtomin_of(nodelay: bool, rx_rto: u32) -> u32
 }
 
 // Those numbers of a block with these settings, at this time and with this timeout.
+#[tactic(auto, unfolding(crate::specs::Due::pace_of))]
 pub fn pace_of(settings: Settings, current: u32, rx_rto: u32) -> Pace
     ensures { result ≡ pace_of settings current rx_rto }
 {
     Pace {
-        current: current,
-        rx_rto: rx_rto,
+        current,
+        rx_rto,
         rtomin: rtomin_of(settings.nodelay, rx_rto),
         resent: resent_of(settings.fastresend),
         nodelay: settings.nodelay,
@@ -76,13 +78,14 @@ pub fn pace_of(settings: Settings, current: u32, rx_rto: u32) -> Pace
 }
 
 // The timeout of a segment after one: doubled at least, or half as much again without delay. It is never cut.
+#[tactic(auto, unfolding(crate::specs::Due::longer_rto, serial::specs::Branch::pick))]
 fn longer_rto(pace: Pace, rto: u32) -> u32
     ensures { result ≡ longer_rto pace rto }
 {
     if pace.nodelay {
-        return serial::add(rto, rto / 2);
+        return rto.wrapping_add(rto / 2);
     }
-    serial::add(rto, serial::greatest(rto, pace.rx_rto))
+    rto.wrapping_add(rto.max(pace.rx_rto))
 }
 
 impl Record {
@@ -91,31 +94,27 @@ impl Record {
         ensures { result ≡ numbered conv sn current rx_rto self }
     {
         Record {
-            conv: conv,
-            frg: self.frg,
-            sn: sn,
+            conv,
+            sn,
             ts: current,
             resendts: current,
             rto: rx_rto,
             fastack: 0,
             xmit: 0,
+            ..self
         }
     }
 
     // Whether enough later segments were acknowledged, and it was not yet sent too often.
+    #[tactic(auto, unfolding(crate::specs::Due::resends_fast))]
     fn resends_fast(self, pace: Pace) -> bool
         ensures { result ≡ resends_fast pace self }
     {
-        if pace.resent <= self.fastack {
-            if self.xmit <= pace.fastlimit {
-                return true;
-            }
-            return pace.fastlimit == 0;
-        }
-        false
+        pace.resent <= self.fastack && (self.xmit <= pace.fastlimit || pace.fastlimit == 0)
     }
 
     // Whether and how it goes out: fresh, else by its time, else fast.
+    #[tactic(auto, unfolding(crate::specs::Due::due_of, serial::specs::Branch::pick))]
     fn due_by(self, pace: Pace) -> Due
         ensures { result ≡ due_of pace self }
     {
@@ -136,18 +135,17 @@ impl Record {
         ensures { result ≡ again current self resendts rto fastack }
     {
         Record {
-            conv: self.conv,
-            frg: self.frg,
-            sn: self.sn,
             ts: current,
-            resendts: resendts,
-            rto: rto,
-            fastack: fastack,
-            xmit: serial::add(self.xmit, 1),
+            resendts,
+            rto,
+            fastack,
+            xmit: self.xmit.wrapping_add(1),
+            ..self
         }
     }
 
     // Its record afterwards, by how it goes out.
+    #[tactic(auto, unfolding(crate::specs::Due::sent_as))]
     fn sent_as(self, pace: Pace, due: Due) -> Record
         ensures { result ≡ sent_as pace due self }
     {
@@ -156,25 +154,26 @@ impl Record {
             Due::Idle => self,
             Due::Fresh => self.again(
                 now,
-                serial::add(serial::add(now, pace.rx_rto), pace.rtomin),
+                now.wrapping_add(pace.rx_rto).wrapping_add(pace.rtomin),
                 pace.rx_rto,
                 self.fastack,
             ),
             Due::TimedOut => {
                 let rto = longer_rto(pace, self.rto);
-                self.again(now, serial::add(now, rto), rto, self.fastack)
+                self.again(now, now.wrapping_add(rto), rto, self.fastack)
             }
-            Due::Fast => self.again(now, serial::add(now, self.rto), self.rto, 0),
+            Due::Fast => self.again(now, now.wrapping_add(self.rto), self.rto, 0),
         }
     }
 
     // Whether and how it goes out, and its record afterwards.
+    #[tactic(auto, unfolding(crate::specs::Due::flown_by))]
     pub fn flown_by(self, pace: Pace) -> Flown
         ensures { result ≡ flown_by pace self }
     {
         let due = self.due_by(pace);
         Flown {
-            due: due,
+            due,
             after: self.sent_as(pace, due),
         }
     }
@@ -185,47 +184,38 @@ impl Due {
     pub fn goes_out(self) -> bool
         ensures { result ≡ goes_out self }
     {
-        match self {
-            Due::Idle => false,
-            Due::Fresh => true,
-            Due::TimedOut => true,
-            Due::Fast => true,
-        }
+        !matches!(self, Due::Idle)
     }
 }
 
 // Whether the link is dead, or a segment that was sent so often makes it so.
+#[tactic(auto, unfolding(crate::specs::Due::dies))]
 fn dies(dead: bool, dead_link: u32, xmit: u32) -> bool
     ensures { result ≡ dies dead dead_link xmit }
 {
-    if dead { true } else { dead_link <= xmit }
+    dead || dead_link <= xmit
 }
 
 impl Tally {
     // With one segment more, by how it goes out and how often it then was sent. A timeout is counted, a fast resend is not.
+    #[tactic(auto, unfolding(crate::specs::Due::with_sent))]
     pub fn with_sent(self, dead_link: u32, due: Due, xmit: u32) -> Tally
         ensures { result ≡ with_sent dead_link due xmit self }
     {
         let dead = dies(self.dead, dead_link, xmit);
         match due {
             Due::Idle => self,
-            Due::Fresh => Tally {
-                xmit: self.xmit,
-                dead: dead,
-                lost: self.lost,
-                change: self.change,
-            },
+            Due::Fresh => Tally { dead, ..self },
             Due::TimedOut => Tally {
-                xmit: serial::add(self.xmit, 1),
-                dead: dead,
+                xmit: self.xmit.wrapping_add(1),
+                dead,
                 lost: true,
-                change: self.change,
+                ..self
             },
             Due::Fast => Tally {
-                xmit: self.xmit,
-                dead: dead,
-                lost: self.lost,
+                dead,
                 change: true,
+                ..self
             },
         }
     }

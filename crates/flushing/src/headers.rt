@@ -20,11 +20,11 @@ impl Told {
     {
         Header {
             conv: self.conv,
-            cmd: cmd,
+            cmd,
             frg: 0,
             wnd: self.wnd,
-            ts: ts,
-            sn: sn,
+            ts,
+            sn,
             una: self.una,
             len: 0,
         }
@@ -36,13 +36,9 @@ impl Told {
     {
         Header {
             conv: record.conv,
-            cmd: wire::PUSH,
             frg: (record.frg % 256) as u8,
-            wnd: self.wnd,
-            ts: record.ts,
-            sn: record.sn,
-            una: self.una,
-            len: len,
+            len,
+            ..self.bare_head(wire::PUSH, record.sn, record.ts)
         }
     }
 }

@@ -6,32 +6,41 @@ ghost use Rattle.flushing.specs.Probing.{ask_set, tell_set, ask_bit, longer_wait
 use block::Kcp;
 use block::probe::Probe;
 
+// The bit of an ask that is to go out.
+const ASK: u32 = 1;
+
+// The bit of a tell.
+const TELL: u32 = 2;
+
 // Whether an ask is to go out.
+#[tactic(auto, using(crate::proofs::Bits::ask_tested))]
 pub fn ask_set(bits: u32) -> bool
     ensures { result ≡ ask_set bits }
 {
-    bits % 2 == 1
+    bits & ASK != 0
 }
 
 // Whether a tell is to go out.
+#[tactic(auto, using(crate::proofs::Bits::tell_tested))]
 pub fn tell_set(bits: u32) -> bool
     ensures { result ≡ tell_set bits }
 {
-    bits / 2 % 2 == 1
+    bits & TELL != 0
 }
 
 // The bits with the ask bit set.
+#[tactic(auto, using(crate::proofs::Bits::ask_put))]
 fn ask_bit(bits: u32) -> u32
     ensures { result ≡ ask_bit bits }
 {
-    if bits % 2 == 0 { bits + 1 } else { bits }
+    bits | ASK
 }
 
 // A wait and half of it, at most the limit.
 fn longer_wait(wait: u32) -> u32
     ensures { result ≡ longer_wait wait }
 {
-    serial::least(serial::add(wait, wait / 2), Kcp::PROBE_LIMIT)
+    wait.wrapping_add(wait / 2).min(Kcp::PROBE_LIMIT)
 }
 
 // A wait that starts now.
@@ -39,13 +48,14 @@ fn armed(current: u32, bits: u32, wait: u32) -> Probe
     ensures { result ≡ armed current bits wait }
 {
     Probe {
-        bits: bits,
-        ts_probe: serial::add(current, wait),
+        bits,
+        ts_probe: current.wrapping_add(wait),
         probe_wait: wait,
     }
 }
 
 // The probe while the peer's window is 0: a first wait, or an ask and a longer one once it is over. No wait of a well-formed block is under the first.
+#[tactic(auto, unfolding(crate::specs::Probing::probed, serial::specs::Branch::pick))]
 fn probed(probe: Probe, current: u32) -> Probe
     requires { ProbeFits probe }
     ensures { result ≡ probed current probe }
@@ -55,15 +65,17 @@ fn probed(probe: Probe, current: u32) -> Probe
         return armed(current, probe.bits, Kcp::PROBE_INIT);
     }
     if serial::not_before(current, probe.ts_probe) {
-        if wait < Kcp::PROBE_INIT {
-            return armed(current, ask_bit(probe.bits), longer_wait(Kcp::PROBE_INIT));
-        }
-        return armed(current, ask_bit(probe.bits), longer_wait(wait));
+        return armed(
+            current,
+            ask_bit(probe.bits),
+            longer_wait(wait.max(Kcp::PROBE_INIT)),
+        );
     }
     probe
 }
 
 // The probe of a flush, before its bits go out: it runs while the peer's window is 0, and else is off.
+#[tactic(auto, unfolding(crate::specs::Probing::probe_wnd_size, serial::specs::Branch::pick))]
 pub fn probe_wnd_size(probe: Probe, rmt_wnd: u16, current: u32) -> Probe
     requires { ProbeFits probe }
     ensures { result ≡ probe_wnd_size rmt_wnd current probe }
@@ -72,8 +84,8 @@ pub fn probe_wnd_size(probe: Probe, rmt_wnd: u16, current: u32) -> Probe
         return probed(probe, current);
     }
     Probe {
-        bits: probe.bits,
         ts_probe: 0,
         probe_wait: 0,
+        ..probe
     }
 }

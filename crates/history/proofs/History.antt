@@ -1,4 +1,5 @@
 -- Demand 3 over the calls: any calls from a fresh block, in lent memory of sizes that a constructor takes. Assumes nothing.
+use Rattle.std.specs.Prelude.{Ok, Err}
 use Prim.Native.Nat.{ℕ, zero-le, ◌<◌}
 use native.Mathlib.Omega.{arith}
 use native.Mathlib.Nat.{zero-add}
@@ -19,7 +20,6 @@ use Rattle.snd_ring.proofs.Splits.{marks-length, rows-length, store-room}
 use Rattle.wire.specs.LittleEndian.{Octets}
 use Rattle.block.specs.declared.Kcp.{Kcp}
 use Rattle.block.specs.declared.receiver.Receiver.{Receiver}
-use Rattle.block.specs.declared.make.Made.TheVariants.{Block, Refused}
 use Rattle.block.specs.declared.refusal.Refusal.TheVariants.{BadPool}
 use Rattle.block.specs.Sizes.{receive_sizes, send_slots, send_sizes, RingSizes, ack_sizes}
 use Rattle.block.specs.Fresh.{fresh_sender, fresh, Lent, lent_sizes, made_of, Makes}
@@ -195,12 +195,12 @@ module _ (conv : ℕ) (stream : Bool) (interval : ℕ) (l : Lent) (sizes : lent_
 
 -- the same of what a constructor answers: a block, and then the sizes of what it was lent are within the limits
 module _ (conv : ℕ) (stream : Bool) (interval : ℕ) (l : Lent) (k : Kcp) where
-  pub made-history : Makes l (fresh conv stream interval) (Block k) → (turns : List Turn) → OwnOrRefused (begun (lent_to k l)) turns
+  pub made-history : Makes l (fresh conv stream interval) (Ok k) → (turns : List Turn) → OwnOrRefused (begun (lent_to k l)) turns
       → SoundCalls (lent_to k l) (run (begun (lent_to k l)) turns)
   unfolding made_of pick
   made-history made = go (lent_sizes l) refl made.answer
     where
-      go : (b : Bool) → lent_sizes l ≡ b → Block k ≡ pick b (Block (fresh conv stream interval)) (Refused BadPool) → (turns : List Turn)
+      go : (b : Bool) → lent_sizes l ≡ b → Ok k ≡ pick b (Ok (fresh conv stream interval)) (Err BadPool) → (turns : List Turn)
           → OwnOrRefused (begun (lent_to k l)) turns → SoundCalls (lent_to k l) (run (begun (lent_to k l)) turns)
       go true h e =
           let same : k ≡ fresh conv stream interval = cc in

@@ -22,8 +22,9 @@ use Rattle.block.specs.declared.congestion.Congestion.{Congestion}
 use Rattle.block.specs.declared.sender.Sender.{Sender}
 use Rattle.receiving.specs.Rules.{Ordered}
 use Rattle.receiving.proofs.Laws.{distance_self, ordered-length}
-use Rattle.sending.specs.declared.Latest.{Latest}
-use Rattle.sending.specs.Rules.{Segment, Sending, numbers, acknowledged_by, una_of, seek, found, with_flying, shrunk, parse_una, parse_ack, raised, counts, parse_fastack}
+use Rattle.std.proofs.Common.{Option, Some, None}
+use Rattle.sending.specs.declared.Ack.{Ack}
+use Rattle.sending.specs.Rules.{Segment, Sending, numbers, acknowledged_by, una_of, seek, found, with_flying, shrunk, parse_una, parse_ack, in_range, raised, parse_fastack}
 use Rattle.flushing.specs.declared.due.Record.{Record}
 use Rattle.flushing.specs.declared.due.Pace.{Pace}
 use Rattle.flushing.specs.declared.due.Due.{Due}
@@ -134,9 +135,10 @@ same_numbers : (ack late : ℕ) (l : List Segment) → numbers (map (raised ack 
 same_numbers ack late [] = refl
 same_numbers ack late (s ∷ l) = ap (λ (x : List ℕ). s.sn ∷ x) (same_numbers ack late l)
 
-pub fastack_risen : (l : Latest) (s : Sending) → Risen s → Risen (parse_fastack l s)
+pub fastack_risen : (l : Option Ack) (s : Sending) → Risen s → Risen (parse_fastack l s)
 unfolding parse_fastack
-fastack_risen l s r = go (counts l s.una s.next)
+fastack_risen None s r = r
+fastack_risen (Some l) s r = go (in_range s.una s.next l.sn)
   where
     go : (b : Bool) → Risen (cond b (with_flying s (map (raised l.sn l.ts) s.flying)) s)
     go true = subst (Rises s.una s.next) (sym (same_numbers l.sn l.ts s.flying)) r
@@ -238,7 +240,7 @@ module _ (s : Sender) (m : Store) (o : Sound 8 s.ring m) (f : Flies s m) where
   pub ack-flies : (x : ℕ) → Flies (ack_at x s m).sender (ack_at x s m).store
   ack-flies x = as-kept (ack_at x s m).sender (ack_at x s m).store (subst Risen (sym (seen-ack x s m o)) (ack_risen x (seen s m) (as_seen s m f)))
 
-  pub fastack-flies : (l : Latest) → Flies s (fastack_at l s m)
+  pub fastack-flies : (l : Option Ack) → Flies s (fastack_at l s m)
   fastack-flies l = as-kept s (fastack_at l s m) (subst Risen (sym (seen-fastack l s m o)) (fastack_risen l (seen s m) (as_seen s m f)))
 
   pub send-flies : (mss : ℕ) (stream : Bool) (bytes : List ℕ) → mss ≤ 1476 → Flies (send_at mss stream bytes s m).sender (send_at mss stream bytes s m).store

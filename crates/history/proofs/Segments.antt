@@ -1,4 +1,5 @@
 -- One segment, as input's specs tell it: by cases, what fits, and what an adopted conv leaves. Assumes nothing.
+use Rattle.std.specs.Prelude.{Result, Ok, Err}
 use Prim.Native.Nat.{ℕ, ◌+◌, ◌-◌, ◌≤◌}
 use native.Mathlib.Omega.{arith}
 use mathlib.Core.Path.{◌≡◌, refl}
@@ -13,8 +14,6 @@ use Rattle.wire.specs.declared.Kind.{Kind}
 use Rattle.wire.specs.Header.{header_at}
 use Rattle.block.specs.declared.Kcp.{Kcp}
 use Rattle.block.specs.declared.refusal.Refusal.{Refusal}
-use Rattle.input.specs.declared.Verdict.{Verdict}
-use Rattle.input.specs.declared.Verdict.TheVariants.{Goes, Refused}
 use Rattle.input.specs.Segment.{Met, with_block, adopts, adopted, begun, effect_at, payload_at, verdict_of, act_at, segment_at}
 
 -- what holds of either side holds of the choice
@@ -29,11 +28,11 @@ unfolding pick
 by_cases true x y z e f g = f e
 by_cases false x y z e f g = g refl e
 
-not_both : {C : Type 0} (y : Refusal) (k : Kind) → Refused y ≡ Goes k → C
+not_both : {C : Type 0} (y : Refusal) (k : Kind) → Err y ≡ Ok k → C
 not_both y k e = let z : ◌≡◌ {A = ℕ} 0 1 = cc in absurd (omega arith)
 
 -- a segment that is not refused has no more bytes than are left
-pub fits_left : (own : ℕ) (waiting : Bool) (h : Header) (left : ℕ) (k : Kind) → verdict_of own waiting h left ≡ Goes k → h.len ≤ left
+pub fits_left : (own : ℕ) (waiting : Bool) (h : Header) (left : ℕ) (k : Kind) → verdict_of own waiting h left ≡ Ok k → h.len ≤ left
 unfolding verdict_of
 fits_left own waiting h left k e =
     by_cases _ _ _ _ e (λ a. not_both _ k a) (λ _ b. by_cases _ _ _ _ b (λ a. not_both _ k a) (λ t _. ltb-false left h.len t))
@@ -69,8 +68,8 @@ module _ (s : List ℕ) (at : ℕ) (m : Met) (more : at + 24 ≤ length s) where
   unfolding segment_at act_at
   segment_by P a b = go (verdict_of m.block.settings.conv m.block.settings.input_conv (header_at s at) (length s - at - 24)) refl
     where
-      go : (v : Verdict) → verdict_of m.block.settings.conv m.block.settings.input_conv (header_at s at) (length s - at - 24) ≡ v → P (act_at s at (header_at s at) m v).met
-      go (Goes kind) e =
+      go : (v : Result Kind Refusal) → verdict_of m.block.settings.conv m.block.settings.input_conv (header_at s at) (length s - at - 24) ≡ v → P (act_at s at (header_at s at) m v).met
+      go (Ok kind) e =
           let l = fits_left m.block.settings.conv m.block.settings.input_conv (header_at s at) (length s - at - 24) kind e in
           b kind (omega arith)
-      go (Refused why) e = a
+      go (Err why) e = a

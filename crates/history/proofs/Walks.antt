@@ -1,5 +1,6 @@
 -- The walk over a datagram keeps the lent memory well formed and as large as it was, keeps the numbers in flight rising, and does to the receive side
 -- what its pushes do as events. Assumes nothing.
+use Rattle.std.specs.Prelude.{Result, Ok, Err}
 use Prim.Native.Nat.{ℕ, zero, suc, ◌+◌, ◌-◌, ◌≤◌, ◌<◌, ◌^◌}
 use native.Mathlib.Omega.{arith}
 use mathlib.Core.Path.{◌≡◌, refl, sym, ap, ◌∙◌}
@@ -26,14 +27,13 @@ use Rattle.receiving.specs.History as rules
 use Rattle.receive.specs.Memory.{seen, full_at, acks_at, list_at}
 use Rattle.receive.proofs.Seen.{seen-push, push-length, push-good, push-next}
 use Rattle.transmit.proofs.Seen.{AsLarge, una-sound, ack-sound, ack-slots}
-use Rattle.input.specs.declared.Verdict.{Verdict}
-use Rattle.input.specs.declared.Verdict.TheVariants.{Goes, Refused}
 use Rattle.input.specs.Segment.{Met, with_block, End, through, stopped, Walked, push_of, adopts, adopted, begun, pushed_at, acked_at, effect_at, payload_at, verdict_of, act_at, segment_at}
 use Rattle.input.specs.Datagram.{onward, walk_from, walk_of}
 use Rattle.history.specs.Pushes.{push_by, push_at_segment, behind, pushes_from, pushes_of}
 use Rattle.history.proofs.Segments.{pick_of, fits_left, payload-fits, adopted-receiver, adopted-acklist, known_at, segment_by}
 use Rattle.history.proofs.Rising.{una-flies, ack-flies}
 use Rattle.history.proofs.Fine.{FineIn}
+use Rattle.block.specs.declared.refusal.Refusal.{Refusal}
 
 -- the receive side as it is seen
 abbrev pub seen_met : Met → Receiving
@@ -222,12 +222,12 @@ module _ (waiting : List ℕ) (s : List ℕ) (short : length s ≤ 1500) (bytes 
     unfolding push_at_segment push_by
     segment-small = go (verdict_of m.block.settings.conv m.block.settings.input_conv (header_at s at) (length s - at - 24))
       where
-        go : (v : Verdict) → AllSmall (push_by s at (header_at s at) m v)
-        go (Goes Push) = (small, tt)
-        go (Goes Ack) = tt
-        go (Goes Ask) = tt
-        go (Goes Tell) = tt
-        go (Refused why) = tt
+        go : (v : Result Kind Refusal) → AllSmall (push_by s at (header_at s at) m v)
+        go (Ok Push) = (small, tt)
+        go (Ok Ack) = tt
+        go (Ok Ask) = tt
+        go (Ok Tell) = tt
+        go (Err why) = tt
 
     -- before its effect the receive side and the ack list are as they were
     ready-seen : seen_met ready ≡ seen_met m
@@ -246,18 +246,18 @@ module _ (waiting : List ℕ) (s : List ℕ) (short : length s ≤ 1500) (bytes 
     unfolding push_at_segment push_by segment_at act_at run_from step leaves effect_at acked_at
     segment-runs slots r e = go (verdict_of m.block.settings.conv m.block.settings.input_conv (header_at s at) (length s - at - 24)) refl
       where
-        go : (v : Verdict) → verdict_of m.block.settings.conv m.block.settings.input_conv (header_at s at) (length s - at - 24) ≡ v
+        go : (v : Result Kind Refusal) → verdict_of m.block.settings.conv m.block.settings.input_conv (header_at s at) (length s - at - 24) ≡ v
             → (run_from slots r (push_by s at (header_at s at) m v)).now ≡ seen_met (act_at s at (header_at s at) m v).met
-        go (Goes Push) q =
+        go (Ok Push) q =
             let x = push_of h (payload_at s at h.len) in
             let l = fits_left m.block.settings.conv m.block.settings.input_conv h (length s - at - 24) Push q in
             ap (push (full_at m.block.acklist.acks m.acks) x) (e ∙ sym ready-seen)
             ∙ ap (λ (n : ℕ). push (full_at n m.acks) x (seen_met ready)) (sym (ap (λ a. a.acks) ready-acks))
             ∙ sym (pushed-seen waiting ready stays-ready.fine x h.ts frg-small (payload-fits s at h.len (omega arith) short) small)
-        go (Goes Ack) q = e ∙ sym ready-seen
-        go (Goes Ask) q = e ∙ sym ready-seen
-        go (Goes Tell) q = e ∙ sym ready-seen
-        go (Refused why) q = e ∙ sym known-seen
+        go (Ok Ack) q = e ∙ sym ready-seen
+        go (Ok Ask) q = e ∙ sym ready-seen
+        go (Ok Tell) q = e ∙ sym ready-seen
+        go (Err why) q = e ∙ sym known-seen
 
   -- ---- all of them
 

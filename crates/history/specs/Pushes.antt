@@ -1,23 +1,23 @@
 -- What the segments of a datagram do to the receive side, as the events of its history: a push for each push segment that is not refused, in
 -- the order in which the walk meets them. That 15, 11 and 1 let no segment be read is said in History. Assumes nothing.
-use Rattle.std.specs.Prelude.{ℕ, zero, suc, ◌+◌, ◌-◌, List, [], ◌∷◌, ◌++◌, length, leb}
+use Rattle.std.specs.Prelude.{ℕ, zero, suc, ◌+◌, ◌-◌, List, [], ◌∷◌, ◌++◌, length, leb, Result, Ok, Err}
 use Rattle.serial.specs.Branch.{pick}
 use Rattle.wire.specs.declared.Header.{Header}
 use Rattle.wire.specs.declared.Kind.TheVariants.{Push, Ack, Ask, Tell}
 use Rattle.wire.specs.Header.{header_at}
 use Rattle.receiving.specs.History.{Event, event_push}
 use Rattle.receive.specs.Memory.{full_at}
-use Rattle.input.specs.declared.Verdict.{Verdict}
-use Rattle.input.specs.declared.Verdict.TheVariants.{Goes, Refused}
 use Rattle.input.specs.Segment.{Met, End, through, stopped, verdict_of, push_of, payload_at, segment_at}
+use Rattle.block.specs.declared.refusal.Refusal.{Refusal}
+use Rattle.wire.specs.declared.Kind.{Kind}
 
 -- the push of a segment, if it is one; whether the ack list is full is asked when its turn comes
-unfoldable pub push_by : List ℕ → ℕ → Header → Met → Verdict → List Event
-push_by s at h m (Goes Push) = event_push (full_at m.block.acklist.acks m.acks) (push_of h (payload_at s at h.len)) ∷ []
-push_by s at h m (Goes Ack) = []
-push_by s at h m (Goes Ask) = []
-push_by s at h m (Goes Tell) = []
-push_by s at h m (Refused why) = []
+unfoldable pub push_by : List ℕ → ℕ → Header → Met → Result Kind Refusal → List Event
+push_by s at h m (Ok Push) = event_push (full_at m.block.acklist.acks m.acks) (push_of h (payload_at s at h.len)) ∷ []
+push_by s at h m (Ok Ack) = []
+push_by s at h m (Ok Ask) = []
+push_by s at h m (Ok Tell) = []
+push_by s at h m (Err why) = []
 
 unfoldable pub push_at_segment : List ℕ → ℕ → Met → List Event
 push_at_segment s at m =

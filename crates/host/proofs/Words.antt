@@ -1,4 +1,5 @@
 -- What a host is told of the words of a block: by a setter, and by a constructor. Assumes nothing.
+use Rattle.std.specs.Prelude.{Result, Ok, Err}
 use Prim.Native.Nat.{ℕ, ◌<◌}
 use mathlib.Core.Path.{◌≡◌, refl, sym, ap, ◌∙◌}
 use mathlib.Core.Bool.{Bool, true, false, not}
@@ -9,11 +10,8 @@ use borrow.Author.Tests.{eq-eqb, ne_eqb, not-true, not-false}
 use Rattle.serial.specs.Branch.{pick, pick_true, pick-false}
 use Rattle.block.specs.declared.Kcp.{Kcp}
 use Rattle.block.specs.declared.set.Set.{Set}
-use Rattle.block.specs.declared.make.Made.{Made}
-use Rattle.block.specs.declared.make.Made.TheVariants.{Block, Refused}
 use Rattle.block.specs.declared.refusal.Refusal.{Refusal}
 use Rattle.block.specs.declared.refusal.Refusal.TheVariants.{InvalidMtu}
-use Rattle.block.specs.declared.refusal.Answer.TheVariants.{Done, Refused as NotDone}
 use Rattle.block.specs.Fresh.{Lent, lent_sizes, made_of, Makes}
 use Rattle.block.specs.Sizes.{mtu_size, mss_of}
 use Rattle.block.specs.Parts.{with_settings, with_mtu}
@@ -53,7 +51,7 @@ module _ (k : Kcp) where
   mtu-words mtu = go (mtu_size mtu)
     where
       left : Bool → Set
-      left t = pick t (record { block = with_settings k (with_mtu k.settings mtu (mss_of mtu)); answer = Done }) (record { block = k; answer = NotDone (InvalidMtu mtu) })
+      left t = pick t (record { block = with_settings k (with_mtu k.settings mtu (mss_of mtu)); answer = Ok tt }) (record { block = k; answer = Err (InvalidMtu mtu) })
 
       go : (t : Bool) → with_mtu_words (left t).block.settings (words_of k) ≡ words_of (left t).block
       go true = refl
@@ -89,12 +87,12 @@ module _ (k : Kcp) where
 
 -- ---- constructors
 
-made-block : (t : Bool) {k b : Kcp} → made_of t k ≡ Block b → (t ≡ true) × (b ≡ k)
+made-block : (t : Bool) {k b : Kcp} → made_of t k ≡ Ok b → (t ≡ true) × (b ≡ k)
 unfolding made_of pick
 made-block true e = (refl, cc)
 made-block false e = (cc, cc)
 
-made_none : (t : Bool) (k : Kcp) {why : Refusal} → made_of t k ≡ Refused why → t ≡ false
+made_none : (t : Bool) (k : Kcp) {why : Refusal} → made_of t k ≡ Err why → t ≡ false
 unfolding made_of pick
 made_none true k e = cc
 made_none false k e = refl
@@ -107,11 +105,11 @@ module _ (m : Lent) (k : Kcp) (l : List ℕ) where
   unfolding can_make
   make-short h = stays (rw (ne_eqb (length l) 35 h))
 
-  pub make-refused : {x : Made} {why : Refusal} → length l ≡ 35 → Makes m k x → x ≡ Refused why → WordsMade m k l 15 l
+  pub make-refused : {x : Result Kcp Refusal} {why : Refusal} → length l ≡ 35 → Makes m k x → x ≡ Err why → WordsMade m k l 15 l
   unfolding can_make
   make-refused h e r = stays (rw (eq-eqb (length l) 35 h) (made_none (lent_sizes m) k (sym e.answer ∙ r)))
 
-  pub make-done : {x : Made} {b : Kcp} {a : List ℕ} → length l ≡ 35 → Makes m k x → x ≡ Block b → a ≡ words_of b → WordsMade m k l 0 a
+  pub make-done : {x : Result Kcp Refusal} {b : Kcp} {a : List ℕ} → length l ≡ 35 → Makes m k x → x ≡ Ok b → a ≡ words_of b → WordsMade m k l 0 a
   unfolding can_make
   make-done {x} {b} h e r w =
       let made : (lent_sizes m ≡ true) × (b ≡ k) = made-block (lent_sizes m) (sym e.answer ∙ r) in

@@ -2,11 +2,26 @@
 // which leaves all. The lent memory is looked at only.
 ghost use Rattle.std.specs.Prelude.{◌≡◌};
 ghost use Rattle.ring.specs.Lists.{lists};
-ghost use Rattle.block.specs.Fresh.{fresh_plain, fresh_stream};
+ghost use Rattle.block.specs.declared.Kcp.{Kcp};
+ghost use Rattle.block.specs.Fresh.{fresh_plain, fresh_stream, Lent, Makes};
 ghost use Rattle.host.specs.Words.{WordsMade};
 
 use block::Kcp;
-use block::make::Made;
+use block::refusal::Refusal;
+
+// Writes the block that a constructor made.
+fn put_made(words: &mut [u32], made: Result<Kcp, Refusal>) -> u32
+    ensures { (m : Lent) (k : Kcp) → Makes m k made → WordsMade m k words.old result words.new }
+{
+    if words.len() != words::WORDS {
+        return words::NO_BLOCK;
+    }
+    let Ok(block) = made else {
+        return words::NO_BLOCK;
+    };
+    words::write(block, words);
+    words::DONE
+}
 
 // A fresh block that keeps messages apart.
 pub fn new(
@@ -21,9 +36,6 @@ pub fn new(
 ) -> u32
     ensures { WordsMade (record { rcv = lists rcv_records.now rcv_room.now; snd = lists snd_records.now snd_room.now; acks = acks.now; waiting = waiting.now }) (fresh_plain conv) words.old result words.new }
 {
-    if words.len() != words::WORDS {
-        return 15;
-    }
     let made = Kcp::new(
         conv,
         rcv_records,
@@ -33,11 +45,7 @@ pub fn new(
         acks,
         waiting,
     );
-    let Made::Block { block } = made else {
-        return 15;
-    };
-    words::write(block, words);
-    0
+    put_made(words, made)
 }
 
 // A fresh block that carries a stream of bytes.
@@ -53,9 +61,6 @@ pub fn new_stream(
 ) -> u32
     ensures { WordsMade (record { rcv = lists rcv_records.now rcv_room.now; snd = lists snd_records.now snd_room.now; acks = acks.now; waiting = waiting.now }) (fresh_stream conv) words.old result words.new }
 {
-    if words.len() != words::WORDS {
-        return 15;
-    }
     let made = Kcp::new_stream(
         conv,
         rcv_records,
@@ -65,9 +70,5 @@ pub fn new_stream(
         acks,
         waiting,
     );
-    let Made::Block { block } = made else {
-        return 15;
-    };
-    words::write(block, words);
-    0
+    put_made(words, made)
 }

@@ -1,4 +1,6 @@
 -- What a host is told of flush_ack, flush, update and check, by whether its words are a block, and that it is told one thing only. Assumes nothing.
+use Rattle.std.specs.Prelude.{Option}
+use Rattle.std.specs.Prelude.{Result}
 use Prim.Native.Nat.{ℕ, ◌<◌}
 use mathlib.Core.Path.{◌≡◌, refl, sym, ap, ◌∙◌, subst}
 use mathlib.Core.Bool.{Bool, true, false, not}
@@ -18,11 +20,11 @@ use Rattle.words.proofs.Back.{words_back}
 use Rattle.host.specs.Words.{set_words}
 use Rattle.packing.specs.FlushAck.{Writing}
 use Rattle.output.specs.Memory.{Out, FlushOut}
-use Rattle.kcp_flush.specs.declared.Wait.{Wait}
 use Rattle.output.proofs.Keeps.{Kept, Same, Keeps, either}
-use Rattle.kcp_flush.specs.Calls.{unflushed, turn_of, number_of_wait, check_of}
+use Rattle.kcp_flush.specs.Calls.{unflushed, turn_of, check_of}
 use Rattle.kcp_flush.proofs.Calls.{turn_unsized, turn-kept}
 use Rattle.host_flush.specs.Words.{count_in, Left, WordsOut, WordsFlushed, wait_in, WordsChecked}
+use Rattle.block.specs.declared.refusal.Refusal.{Refusal}
 
 -- ---- the words that are written
 
@@ -44,12 +46,12 @@ left-words k o e =
 -- ---- what is told
 
 -- the sizes of the ack memory are none: 15, whether the words are a block or not
-module _ (snd : Lists) (acks : List ℕ) (w : Writing) (sets : Bool) (current : ℕ) {t : Bool} (e : t ≡ ack_sizes (length acks) (length w.waiting)) (h : not t ≡ true) where
+module _ (snd : Lists) (acks : List ℕ) (w : Writing) (time : Option ℕ) {t : Bool} (e : t ≡ ack_sizes (length acks) (length w.waiting)) (h : not t ≡ true) where
   abbrev call : Kcp → FlushOut
-  call k = turn_of k snd acks w sets current
+  call k = turn_of k snd acks w time
 
   bad : (k : Kcp) → call k ≡ unflushed k snd w BadPool
-  bad k = sym (turn_unsized k snd acks w sets current (sym e ∙ not-true t h))
+  bad k = sym (turn_unsized k snd acks w time (sym e ∙ not-true t h))
 
   pub flush_unsized : (l : List ℕ) (n : ℕ) → ((i : ℕ) → at l i < 4294967296) → WordsFlushed call snd w l n (record { number = 15; datagrams = n; words = l; written = w }) (store_of 8 snd)
   unfolding set_words
@@ -108,19 +110,19 @@ module _ (l : List ℕ) {t : Bool} (e : t ≡ is_block l) where
     }
 
     -- the same where the words that it can have changed are written
-    pub turn-done : (snd : Lists) (acks : List ℕ) (w : Writing) (sets : Bool) (current n : ℕ) → ((i : ℕ) → at l i < 4294967296) → (o : FlushOut) → o ≡ turn_of b snd acks w sets current → {r d : ℕ} {x : List ℕ}
+    pub turn-done : (snd : Lists) (acks : List ℕ) (w : Writing) (time : Option ℕ) (n : ℕ) → ((i : ℕ) → at l i < 4294967296) → (o : FlushOut) → o ≡ turn_of b snd acks w time → {r d : ℕ} {x : List ℕ}
         → r ≡ number_of_answer o.out.answer → d ≡ count_in n o.out.answer o.out.datagrams → x ≡ pick (eqb o.out.datagrams 0) (with_turn_words o.out.block l) (with_sent_words o.out.block l)
-        → WordsFlushed (λ k. turn_of k snd acks w sets current) snd w l n (record { number = r; datagrams = d; words = x; written = o.out.written }) o.store
+        → WordsFlushed (λ k. turn_of k snd acks w time) snd w l n (record { number = r; datagrams = d; words = x; written = o.out.written }) o.store
     unfolding block_of
-    turn-done snd acks w sets current n range o is p q s =
+    turn-done snd acks w time n range o is p q s =
         let held-block : is_block l ≡ true = sym e ∙ not-false t h in
-        let keeps : Keeps (block_of l) o = subst (Keeps (block_of l)) (sym (is ∙ ap (λ (k : Kcp). turn_of k snd acks w sets current) held)) (turn-kept (block_of l) snd acks w (range 18) sets current) in
-        flush-done (λ k. turn_of k snd acks w sets current) snd w n is p q
+        let keeps : Keeps (block_of l) o = subst (Keeps (block_of l)) (sym (is ∙ ap (λ (k : Kcp). turn_of k snd acks w time) held)) (turn-kept (block_of l) snd acks w (range 18) time) in
+        flush-done (λ k. turn_of k snd acks w time) snd w n is p q
         (s ∙ ap (λ (m : List ℕ). pick (eqb o.out.datagrams 0) (with_turn_words o.out.block m) (with_sent_words o.out.block m)) (sym (words_back l held-block range)) ∙ left-words (block_of l) o keeps)
 
-    pub check_done : (snd : Lists) (current n : ℕ) {a : Wait} → a ≡ check_of b snd current → {r d : ℕ} → r ≡ number_of_wait a → d ≡ wait_in n a → WordsChecked snd current l n r d
+    pub check_done : (snd : Lists) (current n : ℕ) {a : Result ℕ Refusal} → a ≡ check_of b snd current → {r d : ℕ} → r ≡ number_of_answer a → d ≡ wait_in n a → WordsChecked snd current l n r d
     check_done snd current n is p q = record {
-      refusal = p ∙ ap number_of_wait is ∙ gives (λ k. number_of_wait (check_of k snd current)) 15;
+      refusal = p ∙ ap number_of_answer is ∙ gives (λ k. number_of_answer (check_of k snd current)) 15;
       wait = q ∙ ap (wait_in n) is ∙ gives (λ k. wait_in n (check_of k snd current)) n;
     }
 

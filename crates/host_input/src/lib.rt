@@ -1,31 +1,21 @@
-// One datagram into a block that a host keeps as words.
+// One datagram into a block that a host keeps as words. The lists are handed one by one and the answer is a number, as kcp_c exports them.
 #![tactic(auto)]
 
 ghost use Rattle.std.specs.Prelude.{◌≡◌};
 ghost use Rattle.ring.specs.Lists.{lists};
 ghost use Rattle.snd_ring.specs.Store.{store_of};
-ghost use Rattle.block.specs.Refusals.{number_of_bytes};
 ghost use Rattle.host_input.specs.Words.{values_in, WordsRead};
+ghost use Rattle.block.specs.Refusals.{number_of_answer};
 
-use block::refusal::Bytes;
-
-// The number of an answer's refusal, or 0.
-fn number_of(answer: Bytes) -> u32
-    ensures { result ≡ number_of_bytes answer }
-{
-    match answer {
-        Bytes::Are { count: _ } => 0,
-        Bytes::Refused { why } => why.number(),
-    }
-}
+use block::refusal::{Refusal, number_of};
 
 // The two values of an answer: the count, or what goes with the refusal, and 0 where there is none.
-fn values_in(answer: Bytes) -> [usize; 2]
+fn values_in(answer: Result<usize, Refusal>) -> [usize; 2]
     ensures { result ≡ values_in answer }
 {
     match answer {
-        Bytes::Are { count } => [count, 0],
-        Bytes::Refused { why } => {
+        Ok(count) => [count, 0],
+        Err(why) => {
             let row = why.values();
             [row.first, row.second]
         }
@@ -50,13 +40,13 @@ pub fn input(
     ensures { WordsRead (lists rcv_records.old rcv_room.old) acks.old waiting.now (lists snd_records.old snd_room.now) datagram.now words.old
         (record { number = result; values = values.new; skipped = skipped.new; words = words.new; rcv = lists rcv_records.new rcv_room.new; acks = acks.new; snd = store_of 8 (lists snd_records.new snd_room.now) }) }
 {
-    if !words::is_block(words) {
+    let Some(block) = words::block_in(words) else {
         *values = [0, 0];
         *skipped = 0;
-        return 15;
-    }
+        return words::NO_BLOCK;
+    };
     let out = kcp_input::input(
-        words::block(words),
+        block,
         rcv_records,
         rcv_room,
         snd_records,
@@ -66,8 +56,7 @@ pub fn input(
         datagram,
     );
     words::write(out.block, words);
-    let answer = out.answer;
-    *values = values_in(answer);
+    *values = values_in(out.answer);
     *skipped = out.skipped;
-    number_of(answer)
+    number_of(out.answer)
 }

@@ -1,4 +1,5 @@
 -- The words that each call writes in the words of a block are those of the block that it leaves, and what stays is as it was. Assumes nothing.
+use Rattle.std.specs.Prelude.{Err}
 use Prim.Native.Nat.{ℕ}
 use mathlib.Core.Path.{◌≡◌, refl}
 use mathlib.Core.Bool.{Bool, true, false}
@@ -16,7 +17,6 @@ use Rattle.block.specs.declared.refusal.Refusal.{Refusal}
 use Rattle.block.specs.Parts.{with_congestion, with_receiver, with_probe}
 use Rattle.words.specs.Words.{words_of, with_rcv_words, with_windows}
 use Rattle.receiving.specs.Rules.{Answer, empty, expecting, longer, gives, tells, wanted, too_large}
-use Rattle.receive.specs.declared.Length.TheVariants.{Refused}
 use Rattle.receive.specs.Fits.{receive_fits}
 use Rattle.receive.specs.Memory.{move_buf_at, answer_at, freed_at, handed_at, with_tell, probe_at, widened_at, send_window, receive_window, windows_at}
 use Rattle.kcp_receive.specs.Calls.{move_buf_of, RecvOut, out_by, recv_of, set_wndsize_of}
@@ -80,14 +80,14 @@ module _ (k : Kcp) (l : Lists) where
     recv-words = by-pick (λ (o : RecvOut). Handed o.block) (receive_fits k l) _ _ (by-words (answer_at (length buf) k.receiver l.records)) refl
 
     -- a refused recv leaves the block
-    by-refused : (a : Answer) {why : Refusal} → (out_by a k l buf).answer ≡ Refused why → (out_by a k l buf).block ≡ k
+    by-refused : (a : Answer) {why : Refusal} → (out_by a k l buf).answer ≡ Err why → (out_by a k l buf).block ≡ k
     unfolding out_by
     by-refused empty e = refl
     by-refused expecting e = refl
     by-refused longer e = refl
     by-refused (gives n) e = cc
 
-    pub recv-refused : {why : Refusal} → (recv_of k l buf).answer ≡ Refused why → (recv_of k l buf).block ≡ k
+    pub recv-refused : {why : Refusal} → (recv_of k l buf).answer ≡ Err why → (recv_of k l buf).block ≡ k
     unfolding recv_of
     recv-refused {why} =
-        by-pick (λ (o : RecvOut). o.answer ≡ Refused why → o.block ≡ k) (receive_fits k l) _ _ (by-refused (answer_at (length buf) k.receiver l.records)) (λ e. refl)
+        by-pick (λ (o : RecvOut). o.answer ≡ Err why → o.block ≡ k) (receive_fits k l) _ _ (by-refused (answer_at (length buf) k.receiver l.records)) (λ e. refl)

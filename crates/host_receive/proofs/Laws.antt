@@ -1,4 +1,5 @@
 -- What a host is told, by whether its words are a block, and that it is told one thing only. Assumes nothing.
+use Rattle.std.specs.Prelude.{Result, Ok, Err}
 use Prim.Native.Nat.{ℕ, ◌<◌}
 use mathlib.Core.Path.{◌≡◌, sym, ap, ◌∙◌}
 use mathlib.Core.Bool.{Bool, true, false, not}
@@ -14,9 +15,6 @@ use Rattle.words.specs.Words.{at, words_of, block_of, is_block, with_rcv_words, 
 use Rattle.words.proofs.Back.{words_back}
 use Rattle.host.specs.Words.{set_words}
 use Rattle.block.specs.declared.refusal.Refusal.{Refusal}
-use Rattle.receive.specs.declared.Length.{Length}
-use Rattle.receive.specs.declared.Length.TheVariants.{Is, Refused}
-use Rattle.receive.specs.Memory.{number_of_length}
 use Rattle.kcp_receive.specs.Calls.{move_buf_of, peeksize_of, RecvOut, recv_of, set_wndsize_of}
 use Rattle.host_receive.proofs.Changes.{move-words, window-words, recv-words, recv-refused}
 use Rattle.host_receive.specs.Words.{Called, length_in, WordsPeeked, WordsReceived}
@@ -57,9 +55,9 @@ module _ (l : List ℕ) {t : Bool} (e : t ≡ is_block l) where
       gives : {A : Type 0} (f : Kcp → A) (z : A) → f b ≡ pick (is_block l) (f (block_of l)) z
       gives f z = ap f held ∙ sym (pick_true _ _ is)
 
-      pub peeked : (p : Lists) (n : ℕ) {a : Length} {r n' : ℕ} → a ≡ peeksize_of b p → r ≡ number_of_length a → n' ≡ length_in n a → WordsPeeked p l n r n'
+      pub peeked : (p : Lists) (n : ℕ) {a : Result ℕ Refusal} {r n' : ℕ} → a ≡ peeksize_of b p → r ≡ number_of_answer a → n' ≡ length_in n a → WordsPeeked p l n r n'
       peeked p n q c d = record {
-        refusal = c ∙ ap number_of_length q ∙ gives (λ k. number_of_length (peeksize_of k p)) 15;
+        refusal = c ∙ ap number_of_answer q ∙ gives (λ k. number_of_answer (peeksize_of k p)) 15;
         length = d ∙ ap (length_in n) q ∙ gives (λ k. length_in n (peeksize_of k p)) n;
       }
 
@@ -84,16 +82,16 @@ module _ (l : List ℕ) {t : Bool} (e : t ≡ is_block l) where
         windowed p sndwnd rcvwnd = called (λ k. set_wndsize_of k p sndwnd rcvwnd) with_windows (window-words b p sndwnd rcvwnd)
 
         module _ (p : Lists) (buf : List ℕ) (n : ℕ) (o : RecvOut) (q : o ≡ recv_of b p buf) where
-          receives : {r n' : ℕ} {a : List ℕ} → a ≡ set_words (λ k. (recv_of k p buf).block) l → r ≡ number_of_length o.answer → n' ≡ length_in n o.answer → WordsReceived p buf l n r o.buf a n'
+          receives : {r n' : ℕ} {a : List ℕ} → a ≡ set_words (λ k. (recv_of k p buf).block) l → r ≡ number_of_answer o.answer → n' ≡ length_in n o.answer → WordsReceived p buf l n r o.buf a n'
           receives v c d = record {
-            refusal = c ∙ ap (λ (y : RecvOut). number_of_length y.answer) q ∙ gives (λ k. number_of_length (recv_of k p buf).answer) 15;
+            refusal = c ∙ ap (λ (y : RecvOut). number_of_answer y.answer) q ∙ gives (λ k. number_of_answer (recv_of k p buf).answer) 15;
             words = v;
             buffer = ap (λ (y : RecvOut). y.buf) q ∙ gives (λ k. (recv_of k p buf).buf) buf;
             length = d ∙ ap (λ (y : RecvOut). length_in n y.answer) q ∙ gives (λ k. length_in n (recv_of k p buf).answer) n;
           }
 
           -- refused: nothing is written
-          pub refused : {why : Refusal} {r : ℕ} → o.answer ≡ Refused why → r ≡ number_of_length o.answer → WordsReceived p buf l n r o.buf l n
+          pub refused : {why : Refusal} {r : ℕ} → o.answer ≡ Err why → r ≡ number_of_answer o.answer → WordsReceived p buf l n r o.buf l n
           refused {why} t c =
               receives
               (written (λ k. (recv_of k p buf).block) (λ m. m) (ap words_of (sym (recv-refused b p buf (sym (ap (λ (y : RecvOut). y.answer) q) ∙ t)))))
@@ -101,13 +99,13 @@ module _ (l : List ℕ) {t : Bool} (e : t ≡ is_block l) where
               (sym (ap (length_in n) t))
 
           -- a length: the receive side, and then the bits of the probe
-          pub received : {m : ℕ} {s a : List ℕ} → o.answer ≡ Is m → s ≡ with_rcv_words o.block.receiver l → a ≡ set s 15 o.block.probe.bits → WordsReceived p buf l n 0 o.buf a m
+          pub received : {m : ℕ} {s a : List ℕ} → o.answer ≡ Ok m → s ≡ with_rcv_words o.block.receiver l → a ≡ set s 15 o.block.probe.bits → WordsReceived p buf l n 0 o.buf a m
           received {m} t u v =
               receives
               (v ∙ ap (λ (y : List ℕ). set y 15 o.block.probe.bits) u
               ∙ ap (λ (y : RecvOut). set (with_rcv_words y.block.receiver l) 15 y.block.probe.bits) q
               ∙ written (λ k. (recv_of k p buf).block) (λ y. set (with_rcv_words (recv_of b p buf).block.receiver y) 15 (recv_of b p buf).block.probe.bits) (recv-words b p buf))
-              (sym (ap number_of_length t))
+              (sym (ap number_of_answer t))
               (sym (ap (length_in n) t))
 
 -- ---- any two outcomes that meet a promise coincide

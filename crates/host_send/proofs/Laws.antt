@@ -11,7 +11,6 @@ use Rattle.snd_ring.specs.Store.{Store, store_of}
 use Rattle.block.specs.declared.Kcp.{Kcp}
 use Rattle.block.specs.declared.sender.Sender.{Sender}
 use Rattle.block.specs.Parts.{with_sender, with_snd_ring}
-use Rattle.block.specs.Refusals.{number_of_bytes}
 use Rattle.transmit.specs.Fits.{send_fits}
 use Rattle.send.proofs.Keep.{send-beside}
 use Rattle.words.specs.Words.{at, words_of, block_of, is_block, with_snd_words}
@@ -19,6 +18,7 @@ use Rattle.words.proofs.Back.{words_back}
 use Rattle.host.specs.Words.{set_words}
 use Rattle.kcp_send.specs.Send.{SendOut, send_of}
 use Rattle.host_send.specs.Words.{count_in, WordsSent}
+use Rattle.block.specs.Refusals.{number_of_answer}
 
 -- ---- a send changes no number of the block but those of its send ring, and so no words but the ring's
 
@@ -56,14 +56,14 @@ module _ (l : List ℕ) {t : Bool} (e : t ≡ is_block l) where
 
     -- they are the block b, and the send of it gives o; the words of o's send ring are written alone
     pub sent-words : {b : Kcp} → not t ≡ false → b ≡ block_of l → ((i : ℕ) → at l i < 4294967296) → (o : SendOut) {r n' : ℕ} {a : List ℕ} → o ≡ send_of b p bytes
-        → a ≡ with_snd_words o.block.sender.ring l → r ≡ number_of_bytes o.answer → n' ≡ count_in n o.answer → WordsSent p bytes l n r o.store a n'
+        → a ≡ with_snd_words o.block.sender.ring l → r ≡ number_of_answer o.answer → n' ≡ count_in n o.answer → WordsSent p bytes l n r o.store a n'
     unfolding set_words
     sent-words h is w o q v c d =
         let yes-block : is_block l ≡ true = held h in
         let k = block_of l in
         let out : o ≡ send_of k p bytes = q ∙ ap (λ (x : Kcp). send_of x p bytes) is in
         record {
-          refusal = c ∙ ap (λ (y : SendOut). number_of_bytes y.answer) out ∙ sym (pick_true _ _ yes-block);
+          refusal = c ∙ ap (λ (y : SendOut). number_of_answer y.answer) out ∙ sym (pick_true _ _ yes-block);
           words =
               v ∙ ap (λ (y : SendOut). with_snd_words y.block.sender.ring l) out
               ∙ ap (λ (m : List ℕ). with_snd_words (send_of k p bytes).block.sender.ring m) (sym (words_back l yes-block w))

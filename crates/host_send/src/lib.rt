@@ -5,30 +5,10 @@
 ghost use Rattle.std.specs.Prelude.{◌≡◌};
 ghost use Rattle.ring.specs.Lists.{lists};
 ghost use Rattle.snd_ring.specs.Store.{store_of};
-ghost use Rattle.block.specs.Refusals.{number_of_bytes};
 ghost use Rattle.host_send.specs.Words.{count_in, WordsSent};
+ghost use Rattle.block.specs.Refusals.{number_of_answer};
 
-use block::refusal::Bytes;
-
-// The number of an answer's refusal, or 0.
-fn number_of(answer: Bytes) -> u32
-    ensures { result ≡ number_of_bytes answer }
-{
-    match answer {
-        Bytes::Are { count: _ } => 0,
-        Bytes::Refused { why } => why.number(),
-    }
-}
-
-// The count of an answer, or n where it is refused.
-fn count_in(n: usize, answer: Bytes) -> usize
-    ensures { result ≡ count_in n answer }
-{
-    match answer {
-        Bytes::Are { count } => count,
-        Bytes::Refused { why: _ } => n,
-    }
-}
+use block::refusal::number_of;
 
 // Queues the bytes, and puts their count into `queued`. 0, or 8, 12 or 15, which leave it; 12 and 15 leave all, and 8 all but what joined the
 // last segment of a stream.
@@ -42,14 +22,11 @@ pub fn send(
     ensures { WordsSent (lists records.old room.old) bytes.now words.old queued.old result
         (store_of 8 (lists records.new room.new)) words.new queued.new }
 {
-    if !words::is_block(words) {
-        return 15;
-    }
-    let block = words::block(words);
+    let Some(block) = words::block_in(words) else {
+        return words::NO_BLOCK;
+    };
     let out = kcp_send::send(block, records, room, bytes);
-    let after = out.block;
-    words::put_snd_ring(after.sender.ring, words);
-    let answer = out.answer;
-    *queued = count_in(*queued, answer);
-    number_of(answer)
+    words::put_snd_ring(out.block.sender.ring, words);
+    *queued = out.answer.unwrap_or(*queued);
+    number_of(out.answer)
 }

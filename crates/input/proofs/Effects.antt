@@ -22,7 +22,8 @@ use Rattle.block.specs.declared.congestion.Congestion.{Congestion}
 use Rattle.block.specs.declared.Kcp.{Kcp}
 use Rattle.block.specs.Parts.{with_congestion, with_sender, with_receiver, with_ack_list, with_estimator}
 use Rattle.sending.specs.declared.Window.{Window}
-use Rattle.sending.specs.declared.Latest.{Latest}
+use Rattle.std.proofs.Common.{Option, Some}
+use Rattle.sending.specs.declared.Ack.{Ack as AckSeen}
 use Rattle.sending.specs.Rules.{grown, later}
 use Rattle.transmit.specs.Memory.{side, una_at, ack_at}
 use Rattle.transmit.specs.Memory as Send
@@ -47,7 +48,7 @@ module _ (k : Kcp) (p : Lists) (acks : List ℕ) (s : Segment) (ts : ℕ) (o : P
   pub push-skips : o.skipped ≤ 1
   push-skips = let a = one-skip (full_at k.acklist.acks acks) k.receiver s in let e = w.skips in omega arith
 
-  pub push-done : {x r : Kcp} → x ≡ with_receiver k o.receiver → r ≡ with_ack_list x o.acklist → (latest : Latest) (n : ℕ) (snd : Store)
+  pub push-done : {x r : Kcp} → x ≡ with_receiver k o.receiver → r ≡ with_ack_list x o.acklist → (latest : Option AckSeen) (n : ℕ) (snd : Store)
       → record { block = r; latest = latest; skipped = n + o.skipped; rcv = p'; acks = acks'; snd = snd }
       ≡ pushed_at s ts (record { block = k; latest = latest; skipped = n; rcv = p; acks = acks; snd = snd })
   unfolding pushed_at
@@ -85,15 +86,15 @@ begun-done k h m {t} e {x} f g =
 
 pub ack-done : (k : Kcp) (h : Header) (m m' : Store) {t : Sender} → side t m' ≡ ack_at h.sn k.sender m
     → {e : Estimator} → e ≡ acked k.estimator k.clock.current h.ts k.clock.interval → {x r : Kcp} → x ≡ with_estimator k e → r ≡ with_sender x t
-    → (old : Latest) {l : Latest} → l ≡ later old h.sn h.ts → (n : ℕ) (rcv : Lists) (acks : List ℕ)
-    → record { block = r; latest = l; skipped = n; rcv = rcv; acks = acks; snd = m' }
+    → (old : Option AckSeen) {l : AckSeen} → l ≡ later old (record { sn = h.sn; ts = h.ts }) → (n : ℕ) (rcv : Lists) (acks : List ℕ)
+    → record { block = r; latest = Some l; skipped = n; rcv = rcv; acks = acks; snd = m' }
     ≡ acked_at h (record { block = k; latest = old; skipped = n; rcv = rcv; acks = acks; snd = m })
 unfolding acked_at
 ack-done k h m m' {t} w {e} f {x} a b old {l} g n rcv acks =
-    let out : Kcp → Latest → Store → Met = λ z l m. record { block = z; latest = l; skipped = n; rcv = rcv; acks = acks; snd = m } in
+    let out : Kcp → AckSeen → Store → Met = λ z l m. record { block = z; latest = Some l; skipped = n; rcv = rcv; acks = acks; snd = m } in
     ap (λ (z : Kcp). out z l m') (b ∙ ap (λ (z : Kcp). with_sender z t) (a ∙ ap (with_estimator k) f))
-    ∙ ap (λ (z : Latest). out (with_sender (with_estimator k (acked k.estimator k.clock.current h.ts k.clock.interval)) t) z m') g
-    ∙ ap (λ (y : Send.Side). out (with_sender (with_estimator k (acked k.estimator k.clock.current h.ts k.clock.interval)) y.sender) (later old h.sn h.ts) y.store) w
+    ∙ ap (λ (z : AckSeen). out (with_sender (with_estimator k (acked k.estimator k.clock.current h.ts k.clock.interval)) t) z m') g
+    ∙ ap (λ (y : Send.Side). out (with_sender (with_estimator k (acked k.estimator k.clock.current h.ts k.clock.interval)) y.sender) (later old (record { sn = h.sn; ts = h.ts })) y.store) w
 
 -- ---- by the kind
 

@@ -1,5 +1,6 @@
 -- Where a datagram ends depends on its bytes and on the block's conv alone: a segment's end is its verdict's, and what a segment does leaves the conv and the
 -- waiting as its adoption left them. Assumes nothing.
+use Rattle.std.specs.Prelude.{Result, Ok, Err}
 use Prim.Native.Nat.{ℕ, zero, suc, ◌+◌, ◌-◌}
 use mathlib.Core.Path.{◌≡◌, refl, ap, ◌∙◌}
 use mathlib.Core.Bool.{Bool, false}
@@ -16,11 +17,10 @@ use Rattle.wire.specs.Header.{header_at}
 use Rattle.block.specs.declared.settings.Settings.{Settings}
 use Rattle.block.specs.declared.Kcp.{Kcp}
 use Rattle.block.specs.Parts.{with_settings, with_conv, with_input_conv}
-use Rattle.block.specs.Refusals.{number_of_bytes, values_of_bytes}
-use Rattle.input.specs.declared.Verdict.{Verdict}
-use Rattle.input.specs.declared.Verdict.TheVariants.{Goes, Refused}
 use Rattle.input.specs.Segment.{Met, End, through, stopped, Walked, with_block, adopts, verdict_of, adopted, begun, pushed_at, acked_at, effect_at, payload_at, act_at, segment_at, answer_of}
 use Rattle.input.specs.Datagram.{onward, walk_from, walk_of, conv_after, wait_after, end_by, end_from, end_of, number_of_end, values_of_end, finished, met_of, read_at}
+use Rattle.block.specs.declared.refusal.Refusal.{Refusal}
+use Rattle.block.specs.Refusals.{number_of_answer, values_of_count}
 
 -- ---- what a segment does leaves the settings as its adoption left them
 
@@ -70,15 +70,15 @@ module _ (s : List ℕ) where
     abbrev rest_from : ℕ → End
     rest_from next = end_from s fuel next (conv_after (own m) (waiting m) h.conv) (wait_after (own m) (waiting m) h.conv)
 
-    by-verdict : (v : Verdict) → (onward (λ next n. walk_from s fuel next n) (act_at s at h m v)).end ≡ end_by rest_from at h v
+    by-verdict : (v : Result Kind Refusal) → (onward (λ next n. walk_from s fuel next n) (act_at s at h m v)).end ≡ end_by rest_from at h v
     unfolding onward act_at end_by
-    by-verdict (Goes kind) =
+    by-verdict (Ok kind) =
         let n = effect_at kind h (payload_at s at h.len) (with_block m (begun h (adopted h.conv m.block) m.snd)) in
         let e = behind kind h (payload_at s at h.len) m in
         rest (at + 24 + h.len) n
         ∙ ap (λ (x : ℕ). end_from s fuel (at + 24 + h.len) x (waiting n)) (ap (λ (x : Settings). x.conv) e ∙ adopted-conv h.conv m.block)
         ∙ ap (end_from s fuel (at + 24 + h.len) (conv_after (own m) (waiting m) h.conv)) (ap (λ (x : Settings). x.input_conv) e ∙ adopted-waiting h.conv m.block)
-    by-verdict (Refused why) = refl
+    by-verdict (Err why) = refl
 
     segment-end : (onward (λ next n. walk_from s fuel next n) (segment_at s at m)).end ≡ end_by rest_from at h (verdict_of (own m) (waiting m) h (length s - at - 24))
     unfolding segment_at
@@ -103,11 +103,11 @@ unfolding finished
 answer-of k m (through n) = refl
 answer-of k m (stopped why) = refl
 
-number_of : (e : End) → number_of_bytes (answer_of e) ≡ number_of_end e
+number_of : (e : End) → number_of_answer (answer_of e) ≡ number_of_end e
 number_of (through n) = refl
 number_of (stopped why) = refl
 
-values_of : (e : End) → values_of_bytes (answer_of e) ≡ values_of_end e
+values_of : (e : End) → values_of_count (answer_of e) ≡ values_of_end e
 values_of (through n) = refl
 values_of (stopped why) = refl
 
@@ -118,8 +118,8 @@ module _ (k : Kcp) (rcv : Lists) (acks : List ℕ) (snd : Store) (s : List ℕ) 
       let w = walk_of s (met_of k rcv acks snd) in
       answer-of k w.met w.end ∙ ap answer_of (end_is s (met_of k rcv acks snd))
 
-  pub read_number : number_of_bytes (read_at k rcv acks snd s).answer ≡ number_of_end (end_of s k.settings.conv k.settings.input_conv)
-  read_number = ap number_of_bytes read_answer ∙ number_of (end_of s k.settings.conv k.settings.input_conv)
+  pub read_number : number_of_answer (read_at k rcv acks snd s).answer ≡ number_of_end (end_of s k.settings.conv k.settings.input_conv)
+  read_number = ap number_of_answer read_answer ∙ number_of (end_of s k.settings.conv k.settings.input_conv)
 
-  pub read-values : values_of_bytes (read_at k rcv acks snd s).answer ≡ values_of_end (end_of s k.settings.conv k.settings.input_conv)
-  read-values = ap values_of_bytes read_answer ∙ values_of (end_of s k.settings.conv k.settings.input_conv)
+  pub read-values : values_of_count (read_at k rcv acks snd s).answer ≡ values_of_end (end_of s k.settings.conv k.settings.input_conv)
+  read-values = ap values_of_count read_answer ∙ values_of (end_of s k.settings.conv k.settings.input_conv)

@@ -1,4 +1,5 @@
 -- The verdict and the adoption of a conv, by what the tests find. Assumes nothing.
+use Rattle.std.specs.Prelude.{Err}
 use Prim.Native.Nat.{ℕ, ◌<◌, ◌≤◌}
 use mathlib.Core.Path.{◌≡◌, refl, sym, ◌∙◌}
 use mathlib.Core.Bool.{Bool, true, false}
@@ -9,7 +10,6 @@ use Rattle.wire.specs.Commands.{command_of}
 use Rattle.block.specs.declared.Kcp.{Kcp}
 use Rattle.block.specs.declared.refusal.Refusal.TheVariants.{ConvInconsistent, InvalidSegmentDataSize}
 use Rattle.block.specs.Parts.{with_settings, with_conv, with_input_conv}
-use Rattle.input.specs.declared.Verdict.TheVariants.{Refused}
 use Rattle.input.specs.Segment.{adopts, differs, of_command, verdict_of, adopted}
 
 module _ (met : ℕ) (k : Kcp) where
@@ -39,12 +39,12 @@ module _ (met : ℕ) (k : Kcp) where
   adopted-sender = adopted_by (λ (x : Kcp). x.sender ≡ k.sender) refl refl
 
 module _ (own : ℕ) (waiting : Bool) (h : Header) (left : ℕ) where
-  pub judged-conv : differs own waiting h.conv ≡ true → Refused (ConvInconsistent own h.conv) ≡ verdict_of own waiting h left
+  pub judged-conv : differs own waiting h.conv ≡ true → Err (ConvInconsistent own h.conv) ≡ verdict_of own waiting h left
   unfolding verdict_of
   judged-conv e = sym (pick_true _ _ e)
 
   module _ (e : differs own waiting h.conv ≡ false) where
-    pub judged-long : left < h.len → Refused (InvalidSegmentDataSize h.len left) ≡ verdict_of own waiting h left
+    pub judged-long : left < h.len → Err (InvalidSegmentDataSize h.len left) ≡ verdict_of own waiting h left
     unfolding verdict_of
     judged-long l = sym (pick-false _ _ e ∙ pick_true _ _ (lt-ltb left h.len l))
 

@@ -1,4 +1,5 @@
 -- The loop over the segments: what holds at each turn, and what follows from one segment. Assumes nothing.
+use Rattle.std.specs.Prelude.{Result, Ok, Err}
 use Prim.Native.Nat.{ℕ, ◌+◌, ◌-◌, ◌*◌, ◌≤◌, ◌<◌}
 use native.Mathlib.Omega.{arith}
 use mathlib.Core.Path.{◌≡◌}
@@ -6,8 +7,6 @@ use mathlib.Core.List.{List, []}
 use lib.ListN.{length}
 use Rattle.ring.specs.Lists.{Lists}
 use Rattle.block.specs.declared.refusal.Refusal.{Refusal}
-use Rattle.block.specs.declared.refusal.Bytes.{Bytes}
-use Rattle.block.specs.declared.refusal.Bytes.TheVariants.{Are, Refused}
 use Rattle.receive.specs.Fits.{Good}
 use Rattle.transmit.specs.Fits.{Lies}
 use Rattle.input.specs.declared.Walk.{Walk}
@@ -39,16 +38,16 @@ module _ {s : List ℕ} {first : List ℕ → Met} {x : Walk} {rcv : Lists} {ack
 
   -- too few bytes are left for a header
   pub going-ends : length s - at < 24
-      → ((room : List ℕ) → WalkedAs s (first room) (met_by x rcv acks a room) (Are at)) × (Lies x.block.sender a × (x.skipped ≤ 62))
+      → ((room : List ℕ) → WalkedAs s (first room) (met_by x rcv acks a room) (Ok at)) × (Lies x.block.sender a × (x.skipped ≤ 62))
   going-ends h = (λ room. ends s (g.here room) h, (g.lies, few-skipped))
 
-  module _ (h : 24 ≤ length s - at) (y : Walk) (rcv' : Lists) (acks' a' : List ℕ) {b : Bytes}
+  module _ (h : 24 ≤ length s - at) (y : Walk) (rcv' : Lists) (acks' a' : List ℕ) {b : Result ℕ Refusal}
       (e : (room : List ℕ) → SegmentAs s at (met_by x rcv acks a room) (met_by y rcv' acks' a' room) b) where
-    pub going-stops : {why : Refusal} → b ≡ Refused why → Lies y.block.sender a' → y.skipped ≤ x.skipped + 1
+    pub going-stops : {why : Refusal} → b ≡ Err why → Lies y.block.sender a' → y.skipped ≤ x.skipped + 1
         → ((room : List ℕ) → WalkedAs s (first room) (met_by y rcv' acks' a' room) b) × (Lies y.block.sender a' × (y.skipped ≤ 62))
     going-stops f r l = let w = g.skips in let z = in_datagram in (λ room. stops s (g.here room) h (e room) f, (r, omega arith))
 
-    module _ {n : ℕ} (f : b ≡ Are n) where
+    module _ {n : ℕ} (f : b ≡ Ok n) where
       pub reaches : (at + 24 ≤ n) × (n ≤ length s)
       reaches = falls s (g.here []) h (e []) f
 

@@ -1,4 +1,5 @@
 -- What every segment keeps of the lent memory: both rings stay sound; and a segment skips at most one push. Assumes nothing.
+use Rattle.std.specs.Prelude.{Result, Ok, Err}
 use Prim.Native.Nat.{ℕ, ◌+◌, ◌-◌, ◌≤◌, ◌<◌}
 use native.Mathlib.Omega.{arith}
 use mathlib.Core.Path.{◌≡◌, refl}
@@ -14,12 +15,11 @@ use Rattle.receive.specs.Memory.{full_at}
 use Rattle.receive.specs.Fits.{Good}
 use Rattle.receive.proofs.Seen.{push-good}
 use Rattle.transmit.proofs.Seen.{una-sound, ack-sound}
-use Rattle.input.specs.declared.Verdict.{Verdict}
-use Rattle.input.specs.declared.Verdict.TheVariants.{Goes, Refused}
 use Rattle.input.specs.Segment.{Met, with_block, adopted, begun, push_of, pushed_at, acked_at, effect_at, payload_at, verdict_of, act_at, segment_at}
 use Rattle.input.proofs.Judging.{adopted-receiver, adopted-sender}
 use Rattle.input.proofs.Effects.{one-skip}
 use Rattle.input.proofs.Turns.{fits_left}
+use Rattle.block.specs.declared.refusal.Refusal.{Refusal}
 
 pub record Sane (m : Met) : Type 0 where
   pub good : Good m.block.receiver m.rcv
@@ -74,12 +74,12 @@ module _ (s : List ℕ) (at : ℕ) (m : Met) (more : at + 24 ≤ length s) where
   unfolding segment_at act_at
   segment_by P a b = go (verdict_of m.block.settings.conv m.block.settings.input_conv (header_at s at) (length s - at - 24)) refl
     where
-      go : (v : Verdict) → verdict_of m.block.settings.conv m.block.settings.input_conv (header_at s at) (length s - at - 24) ≡ v
+      go : (v : Result Kind Refusal) → verdict_of m.block.settings.conv m.block.settings.input_conv (header_at s at) (length s - at - 24) ≡ v
           → P (act_at s at (header_at s at) m v).met
-      go (Goes kind) e =
+      go (Ok kind) e =
           let l = fits_left m.block.settings.conv m.block.settings.input_conv (header_at s at) (length s - at - 24) kind e in
           b kind (omega arith)
-      go (Refused why) e = a
+      go (Err why) e = a
 
   pub sane-segment : length s ≤ 1500 → h.frg < 65536 → Sane m → Sane (segment_at s at m).met
   sane-segment short small x =

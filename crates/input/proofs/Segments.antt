@@ -1,4 +1,5 @@
 -- One segment, from what the functions that it calls promise. Assumes nothing.
+use Rattle.std.specs.Prelude.{Result, Ok, Err}
 use Prim.Native.Nat.{ℕ, ◌+◌, ◌-◌, ◌≤◌, ◌<◌}
 use native.Mathlib.Omega.{arith}
 use mathlib.Core.Path.{◌≡◌, sym, ap, ◌∙◌, subst}
@@ -14,15 +15,11 @@ use Rattle.wire.specs.declared.Kind.{Kind}
 use Rattle.wire.specs.Header.{header_at}
 use Rattle.block.specs.declared.Kcp.{Kcp}
 use Rattle.block.specs.declared.refusal.Refusal.{Refusal}
-use Rattle.block.specs.declared.refusal.Bytes.{Bytes}
-use Rattle.block.specs.declared.refusal.Bytes.TheVariants.{Are}
 use Rattle.receive.specs.Fits.{Good}
 use Rattle.transmit.specs.Fits.{Lies}
 use Rattle.transmit.proofs.Exact.{una-lies}
-use Rattle.input.specs.declared.Verdict.{Verdict}
-use Rattle.input.specs.declared.Verdict.TheVariants.{Goes, Refused}
 use Rattle.input.specs.declared.Walk.{Walk}
-use Rattle.input.specs.Segment.{Met, Walked, with_block, adopted, begun, refused_by, answer_of, effect_at, payload_at, verdict_of, act_at, segment_at, SegmentAs}
+use Rattle.input.specs.Segment.{Met, Walked, with_block, adopted, begun, answer_of, effect_at, payload_at, verdict_of, act_at, segment_at, SegmentAs}
 use Rattle.input.proofs.Judging.{adopted-receiver, adopted-sender}
 use Rattle.input.proofs.Turns.{fits_left}
 use Rattle.input.proofs.Sane.{Sane, sane-segment, segment-skips, payload-fits}
@@ -34,7 +31,7 @@ met_by w rcv acks a room =
 
 -- ---- what is left of a segment, from each step
 
-module _ (s : List ℕ) (at : ℕ) {h : Header} (read : h ≡ header_at s at) (m : Met) {v : Verdict}
+module _ (s : List ℕ) (at : ℕ) {h : Header} (read : h ≡ header_at s at) (m : Met) {v : Result Kind Refusal}
     (judged : v ≡ verdict_of m.block.settings.conv m.block.settings.input_conv h (length s - at - 24)) where
   acts : act_at s at h m v ≡ segment_at s at m
   unfolding segment_at
@@ -45,17 +42,17 @@ module _ (s : List ℕ) (at : ℕ) {h : Header} (read : h ≡ header_at s at) (m
   segment_as : {w : Walked} → w ≡ act_at s at h m v → SegmentAs s at m w.met (answer_of w.end)
   segment_as e = record { met = ap (λ (x : Walked). x.met) (e ∙ acts); answered = ap (λ (x : Walked). answer_of x.end) (e ∙ acts) }
 
-  pub segment-stops : {y : Refusal} → v ≡ Refused y → {k : Kcp} → k ≡ adopted h.conv m.block → {b : Bytes} → b ≡ refused_by v → SegmentAs s at m (with_block m k) b
+  pub segment-stops : {y : Refusal} → v ≡ Err y → {k : Kcp} → k ≡ adopted h.conv m.block → SegmentAs s at m (with_block m k) (Err y)
   unfolding act_at
-  segment-stops {y} e {k} f {b} g =
+  segment-stops {y} e {k} f =
       let a = ap (act_at s at h m) (sym e) ∙ acts in
       record {
         met = ap (with_block m) f ∙ ap (λ (x : Walked). x.met) a;
-        answered = g ∙ ap refused_by e ∙ ap (λ (x : Walked). answer_of x.end) a;
+        answered = ap (λ (x : Walked). answer_of x.end) a;
       }
 
-  pub segment-goes : {kind : Kind} → v ≡ Goes kind → {k : Kcp} → k ≡ adopted h.conv m.block → {g : Kcp} → g ≡ begun h k m.snd
-      → {payload : List ℕ} → payload ≡ payload_at s at h.len → {n : Met} → n ≡ effect_at kind h payload (with_block m g) → SegmentAs s at m n (Are (at + 24 + h.len))
+  pub segment-goes : {kind : Kind} → v ≡ Ok kind → {k : Kcp} → k ≡ adopted h.conv m.block → {g : Kcp} → g ≡ begun h k m.snd
+      → {payload : List ℕ} → payload ≡ payload_at s at h.len → {n : Met} → n ≡ effect_at kind h payload (with_block m g) → SegmentAs s at m n (Ok (at + 24 + h.len))
   unfolding act_at
   segment-goes {kind} e {k} f₁ {g} f₂ {payload} p {n} f₃ =
       let a = ap (act_at s at h m) (sym e) ∙ acts in
@@ -68,7 +65,7 @@ module _ (s : List ℕ) (at : ℕ) {h : Header} (read : h ≡ header_at s at) (m
       }
 
   -- where the next one begins
-  pub within : {kind : Kind} → v ≡ Goes kind → at + 24 ≤ length s → at + 24 + h.len ≤ length s
+  pub within : {kind : Kind} → v ≡ Ok kind → at + 24 ≤ length s → at + 24 + h.len ≤ length s
   within {kind} e l =
       let a = fits_left m.block.settings.conv m.block.settings.input_conv h (length s - at - 24) kind (sym judged ∙ e) in
       omega arith
@@ -110,7 +107,7 @@ frg-small s at e l = let b = ap (λ (g : Header). g.frg) e in omega arith
 
 -- what a segment leaves of the memory
 module _ (s : List ℕ) (at : ℕ) (more : at + 24 ≤ length s) (short : length s ≤ 1500) (small : (header_at s at).frg < 65536)
-    (x y : Walk) (rcv rcv' : Lists) (acks acks' a a' : List ℕ) (b : Bytes) (good : Good x.block.receiver rcv) (lies : Lies x.block.sender a)
+    (x y : Walk) (rcv rcv' : Lists) (acks acks' a a' : List ℕ) (b : Result ℕ Refusal) (good : Good x.block.receiver rcv) (lies : Lies x.block.sender a)
     (e : (room : List ℕ) → SegmentAs s at (met_by x rcv acks a room) (met_by y rcv' acks' a' room) b) where
   sane : Sane (met_by y rcv' acks' a' lies.room)
   sane = rw (e lies.room).met (sane-segment s at (met_by x rcv acks a lies.room) more short small (record { good = good; sound = lies.sound }))

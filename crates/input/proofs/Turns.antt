@@ -1,4 +1,5 @@
 -- The laws of the walk over a datagram: the outcome of the whole is the outcome from here. Assumes nothing.
+use Rattle.std.specs.Prelude.{Result, Ok, Err}
 use Prim.Native.Nat.{ℕ, zero, suc, ◌+◌, ◌-◌, ◌≤◌, ◌<◌}
 use native.Mathlib.Omega.{arith}
 use mathlib.Core.Path.{◌≡◌, refl, sym, ap, ◌∙◌}
@@ -11,10 +12,6 @@ use Rattle.wire.specs.declared.Header.{Header}
 use Rattle.wire.specs.declared.Kind.{Kind}
 use Rattle.wire.specs.Header.{header_at}
 use Rattle.block.specs.declared.refusal.Refusal.{Refusal}
-use Rattle.block.specs.declared.refusal.Bytes.{Bytes}
-use Rattle.block.specs.declared.refusal.Bytes.TheVariants.{Are, Refused as NoBytes}
-use Rattle.input.specs.declared.Verdict.{Verdict}
-use Rattle.input.specs.declared.Verdict.TheVariants.{Goes, Refused}
 use Rattle.input.specs.Segment.{Met, End, through, stopped, Walked, verdict_of, act_at, segment_at, answer_of, SegmentAs}
 use Rattle.input.specs.Datagram.{onward, walk_from, walk_of, WalkedAs}
 
@@ -24,22 +21,22 @@ unfolding pick
 by_cases true x y z e f g = f e
 by_cases false x y z e f g = g refl e
 
-not_both : {C : Type 0} (y : Refusal) (k : Kind) → Refused y ≡ Goes k → C
+not_both : {C : Type 0} (y : Refusal) (k : Kind) → Err y ≡ Ok k → C
 not_both y k e = let z : ◌≡◌ {A = ℕ} 0 1 = cc in absurd (omega arith)
 
 -- a segment that is not refused has no more bytes than are left
-pub fits_left : (own : ℕ) (waiting : Bool) (h : Header) (left : ℕ) (k : Kind) → verdict_of own waiting h left ≡ Goes k → h.len ≤ left
+pub fits_left : (own : ℕ) (waiting : Bool) (h : Header) (left : ℕ) (k : Kind) → verdict_of own waiting h left ≡ Ok k → h.len ≤ left
 unfolding verdict_of
 fits_left own waiting h left k e =
     by_cases _ _ _ _ e (λ a. not_both _ k a) (λ _ b. by_cases _ _ _ _ b (λ a. not_both _ k a) (λ t _. ltb-false left h.len t))
 
 -- ---- an end, by its answer
 
-pub through_of : (e : End) (n : ℕ) → Are n ≡ answer_of e → e ≡ through n
+pub through_of : (e : End) (n : ℕ) → Ok n ≡ answer_of e → e ≡ through n
 through_of (through m) n q = cc
 through_of (stopped why) n q = let z : ◌≡◌ {A = ℕ} 0 1 = cc in absurd (omega arith)
 
-pub stopped_of : (e : End) (why : Refusal) → NoBytes why ≡ answer_of e → e ≡ stopped why
+pub stopped_of : (e : End) (why : Refusal) → Err why ≡ answer_of e → e ≡ stopped why
 stopped_of (through m) why q = let z : ◌≡◌ {A = ℕ} 0 1 = cc in absurd (omega arith)
 stopped_of (stopped w) why q = cc
 
@@ -66,13 +63,13 @@ module _ (s : List ℕ) where
   unfolding segment_at act_at
   reach at m n h e = go (verdict_of m.block.settings.conv m.block.settings.input_conv (header_at s at) (length s - at - 24)) refl e
     where
-      go : (v : Verdict) → verdict_of m.block.settings.conv m.block.settings.input_conv (header_at s at) (length s - at - 24) ≡ v
+      go : (v : Result Kind Refusal) → verdict_of m.block.settings.conv m.block.settings.input_conv (header_at s at) (length s - at - 24) ≡ v
           → (act_at s at (header_at s at) m v).end ≡ through n → (at + 24 ≤ n) × (n ≤ length s)
-      go (Goes k) q r =
+      go (Ok k) q r =
           let a = fits_left m.block.settings.conv m.block.settings.input_conv (header_at s at) (length s - at - 24) k q in
           let b = ends_in _ _ r in
           (omega arith, omega arith)
-      go (Refused y) q r = not_through y n r
+      go (Err y) q r = not_through y n r
 
   -- the whole walk is the walk from here
   pub record Here (first : Met) (at : ℕ) (m : Met) : Type 0 where
@@ -116,22 +113,22 @@ module _ (s : List ℕ) where
   -- What the loop asks, each from the facts that it has in hand.
   module _ {first : Met} {at : ℕ} {m : Met} (here : Here first at m) where
     -- too few bytes are left for a header
-    pub ends : length s - at < 24 → WalkedAs s first m (Are at)
+    pub ends : length s - at < 24 → WalkedAs s first m (Ok at)
     ends h =
         let w = here.within in
         let e = sym (ends_from at m (walk_of s first) here.fuel here.same (omega arith)) in
         record { met = ap (λ (x : Walked). x.met) e; answered = ap (λ (x : Walked). answer_of x.end) e }
 
-    module _ (h : 24 ≤ length s - at) {m' : Met} {b : Bytes} (e : SegmentAs s at m m' b) where
+    module _ (h : 24 ≤ length s - at) {m' : Met} {b : Result ℕ Refusal} (e : SegmentAs s at m m' b) where
       pub more : at + 24 ≤ length s
       more = let w = here.within in omega arith
 
-      pub stops : {why : Refusal} → b ≡ NoBytes why → WalkedAs s first m' b
+      pub stops : {why : Refusal} → b ≡ Err why → WalkedAs s first m' b
       stops {why} q =
           let f = sym (stops_from at m (walk_of s first) here.fuel why here.enough here.same more (stopped_of (segment_at s at m).end why (sym q ∙ e.answered))) in
           record { met = e.met ∙ ap (λ (x : Walked). x.met) f; answered = e.answered ∙ ap (λ (x : Walked). answer_of x.end) f }
 
-      module _ {n : ℕ} (q : b ≡ Are n) where
+      module _ {n : ℕ} (q : b ≡ Ok n) where
         goes_on : (segment_at s at m).end ≡ through n
         goes_on = through_of (segment_at s at m).end n (sym q ∙ e.answered)
 

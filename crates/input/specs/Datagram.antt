@@ -2,7 +2,7 @@
 -- skipped pushes (0 to 62), the latter also beside a refusal." "An input stops at the first refused segment, and then the next two steps don't
 -- run. (a) .. (b) .." For a datagram of 24 to 1,500 bytes and memory that is well formed; 15, 11 and 1 are the call's (kcp_input/specs/Input).
 -- Assumes nothing.
-use Rattle.std.specs.Prelude.{ℕ, zero, suc, ◌+◌, ◌-◌, ◌≡◌, Bool, false, List, [], ◌∷◌, length, leb}
+use Rattle.std.specs.Prelude.{ℕ, zero, suc, ◌+◌, ◌-◌, ◌≡◌, Bool, false, List, [], ◌∷◌, length, leb, None, Result, Ok, Err}
 use Rattle.serial.specs.Branch.{pick}
 use Rattle.serial.specs.Wrap.{after}
 use Rattle.wire.specs.declared.Header.{Header}
@@ -11,16 +11,14 @@ use Rattle.ring.specs.Lists.{Lists}
 use Rattle.snd_ring.specs.Store.{Store}
 use Rattle.block.specs.declared.Kcp.{Kcp}
 use Rattle.block.specs.declared.congestion.Congestion.{Congestion}
-use Rattle.block.specs.declared.refusal.Bytes.{Bytes}
-use Rattle.block.specs.declared.refusal.Bytes.TheVariants.{Are, Refused as NoBytes}
 use Rattle.block.specs.Refusals.{number_of, values_of}
 use Rattle.block.specs.Parts.{with_congestion}
 use Rattle.sending.specs.declared.Window.{Window}
 use Rattle.sending.specs.Rules.{grown}
 use Rattle.transmit.specs.Memory.{fastack_at}
-use Rattle.input.specs.declared.Verdict.{Verdict}
-use Rattle.input.specs.declared.Verdict.TheVariants.{Goes, Refused}
 use Rattle.input.specs.Segment.{Met, End, through, stopped, Walked, adopts, verdict_of, segment_at, answer_of}
+use Rattle.block.specs.declared.refusal.Refusal.{Refusal}
+use Rattle.wire.specs.declared.Kind.{Kind}
 
 -- ---- the walk
 
@@ -41,7 +39,7 @@ walk_from s (suc fuel) at m =
 unfoldable pub walk_of : List ℕ → Met → Walked
 walk_of s m = walk_from s (length s) 0 m
 
-pub record WalkedAs (s : List ℕ) (m : Met) (m' : Met) (answer : Bytes) : Type 0 where
+pub record WalkedAs (s : List ℕ) (m : Met) (m' : Met) (answer : Result ℕ Refusal) : Type 0 where
   pub met : m' ≡ (walk_of s m).met
   pub answered : answer ≡ answer_of (walk_of s m).end
 
@@ -54,9 +52,9 @@ conv_after own waiting met = pick (adopts own waiting met) met own
 abbrev pub wait_after : ℕ → Bool → ℕ → Bool
 wait_after own waiting met = pick (adopts own waiting met) false waiting
 
-unfoldable pub end_by : (ℕ → End) → ℕ → Header → Verdict → End
-end_by go at h (Goes kind) = go (at + 24 + h.len)
-end_by go at h (Refused why) = stopped why
+unfoldable pub end_by : (ℕ → End) → ℕ → Header → Result Kind Refusal → End
+end_by go at h (Ok kind) = go (at + 24 + h.len)
+end_by go at h (Err why) = stopped why
 
 unfoldable pub end_from : List ℕ → ℕ → ℕ → ℕ → Bool → End
 end_from s zero at own waiting = through at
@@ -91,7 +89,7 @@ grown_by mss before una c =
 -- what input leaves: the block, its answer, the skipped pushes and the lent memory
 pub record ReadOut : Type 0 where
   pub block : Kcp
-  pub answer : Bytes
+  pub answer : Result ℕ Refusal
   pub skipped : ℕ
   pub rcv : Lists
   pub acks : List ℕ
@@ -100,17 +98,17 @@ pub record ReadOut : Type 0 where
 unfoldable pub finished : Kcp → Met → End → ReadOut
 finished k m (through count) = record {
   block = with_congestion m.block (grown_by k.settings.mss k.sender.snd_una m.block.sender.snd_una m.block.congestion);
-  answer = Are count;
+  answer = Ok count;
   skipped = m.skipped;
   rcv = m.rcv;
   acks = m.acks;
   snd = fastack_at m.latest m.block.sender m.snd;
 }
-finished k m (stopped why) = record { block = m.block; answer = NoBytes why; skipped = m.skipped; rcv = m.rcv; acks = m.acks; snd = m.snd }
+finished k m (stopped why) = record { block = m.block; answer = Err why; skipped = m.skipped; rcv = m.rcv; acks = m.acks; snd = m.snd }
 
 -- no ack is seen yet, and no push skipped
 abbrev pub met_of : Kcp → Lists → List ℕ → Store → Met
-met_of k rcv acks snd = record { block = k; latest = record { seen = false; sn = 0; ts = 0 }; skipped = 0; rcv = rcv; acks = acks; snd = snd }
+met_of k rcv acks snd = record { block = k; latest = None; skipped = 0; rcv = rcv; acks = acks; snd = snd }
 
 unfoldable pub read_at : Kcp → Lists → List ℕ → Store → List ℕ → ReadOut
 read_at k rcv acks snd s =

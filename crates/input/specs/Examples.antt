@@ -1,5 +1,5 @@
 -- Verdicts, walks and whole datagrams on closed cases, the verdicts and walks such as the Rust was seen to answer so. Assumes nothing.
-use Rattle.std.specs.Prelude.{ℕ, ◌≡◌, refl, Bool, true, false, List, [], ◌∷◌, ◌++◌, replicate}
+use Rattle.std.specs.Prelude.{ℕ, ◌≡◌, refl, Bool, true, false, List, [], ◌∷◌, ◌++◌, replicate, Ok, Err}
 use Rattle.serial.specs.Branch.{pick}
 use Rattle.serial.specs.Wrap.{signed32}
 use Rattle.serial.specs.Window.{distance}
@@ -26,14 +26,12 @@ use Rattle.block.specs.declared.receiver.Receiver.{Receiver}
 use Rattle.block.specs.declared.sender.Sender.{Sender}
 use Rattle.block.specs.declared.acklist.AckList.{AckList}
 use Rattle.block.specs.declared.refusal.Refusal.TheVariants.{ConvInconsistent, InvalidSegmentDataSize, UnsupportedCmd}
-use Rattle.block.specs.declared.refusal.Bytes.TheVariants.{Are, Refused as NoBytes}
 use Rattle.block.specs.Parts.{with_settings, with_input_conv, with_congestion, with_receiver, with_ack_list, with_estimator, with_sender}
 use Rattle.block.specs.Fresh.{fresh_settings, fresh_probe, fresh}
 use Rattle.receiving.specs.Rules.{skipped, listed, reached}
 use Rattle.receive.specs.Memory.{ready_at, move_buf_at, stored_in, moved_at, push_at, acks_at, list_at, skips_at}
-use Rattle.sending.specs.Rules.{acknowledged_by, una_of, in_range, seek, meets, found, later, gains, fastack_of, counts, opened, cut_to, grown}
+use Rattle.sending.specs.Rules.{acknowledged_by, una_of, in_range, seek, meets, found, later, gains, fastack_of, opened, cut_to, grown}
 use Rattle.transmit.specs.Memory.{flying_numbers, shrunk_at, una_at, ends_at, sought, removed_at, shrunk_side, ack_at, raised_one, raised_from, fastack_at}
-use Rattle.input.specs.declared.Verdict.TheVariants.{Goes, Refused}
 use Rattle.input.specs.Segment.{adopts, differs, verdict_of, Met, adopted, begun, pushed_at, acked_at, effect_at, through, stopped, act_at, segment_at}
 use Rattle.input.specs.Datagram.{onward, walk_from, walk_of, end_by, end_from, end_of, grown_by, finished, met_of, read_at}
 
@@ -43,10 +41,10 @@ head : ℕ → ℕ → ℕ → Header
 head conv cmd len = record { conv = conv; cmd = cmd; frg = 0; wnd = 77; ts = 0; sn = 0; una = 0; len = len }
 
 -- bad cmd and bad len together: 3; another conv: 2 unless one is awaited; an equal conv ends no waiting
-verdicts : (verdict_of 1 false (head 1 99 9) 0 ≡ Refused (InvalidSegmentDataSize 9 0))
-    × (verdict_of 1 false (head 1 99 0) 0 ≡ Refused (UnsupportedCmd 99))
-    × (verdict_of 7 false (head 9 99 9) 0 ≡ Refused (ConvInconsistent 7 9))
-    × (verdict_of 7 true (head 9 81 0) 0 ≡ Goes Push)
+verdicts : (verdict_of 1 false (head 1 99 9) 0 ≡ Err (InvalidSegmentDataSize 9 0))
+    × (verdict_of 1 false (head 1 99 0) 0 ≡ Err (UnsupportedCmd 99))
+    × (verdict_of 7 false (head 9 99 9) 0 ≡ Err (ConvInconsistent 7 9))
+    × (verdict_of 7 true (head 9 81 0) 0 ≡ Ok Push)
     × (adopts 7 true 9 ≡ true)
     × (adopts 7 true 7 ≡ false)
     × (adopts 7 false 9 ≡ false)
@@ -125,33 +123,33 @@ said cmd ts sn una len = record { conv = 1; cmd = cmd; frg = 0; wnd = 77; ts = t
 pushed : read_at (block 0) (lists rcv_words (replicate 5904 6)) (8 ∷ 8 ∷ 8 ∷ 8 ∷ []) (three flying 0) (header_bytes (said 81 50 10 10 3) ++ (1 ∷ 2 ∷ 3 ∷ []))
     ≡ record {
       block = with_ack_list (with_receiver (with_congestion (block 0) (congestion 77 1 1376)) (awaits 11 1)) (acklist 1);
-      answer = Are 27;
+      answer = Ok 27;
       skipped = 0;
       rcv = lists (262144 ∷ 9 ∷ 9 ∷ 9 ∷ []) (1 ∷ 2 ∷ 3 ∷ replicate 5901 6);
       acks = 10 ∷ 50 ∷ 8 ∷ 8 ∷ [];
       snd = three flying 0;
     }
-unfolding block congestion awaits sender acklist rcv_words row three flying said read_at walk_of walk_from onward finished segment_at act_at effect_at begun adopted verdict_of differs adopts command_of pick header_at header_bytes una_at shrunk_at flying_numbers flight_of memory.seen along cell part dropped advanced settled passed at_least acknowledged_by una_of place pushed_at push_at reached skipped listed distance stored_in held_at stored_at cleared put moved_at move_buf_at ready_at ready_of leading acks_at list_at skips_at fastack_at counts in_range raised_from grown_by
+unfolding block congestion awaits sender acklist rcv_words row three flying said read_at walk_of walk_from onward finished segment_at act_at effect_at begun adopted verdict_of differs adopts command_of pick header_at header_bytes una_at shrunk_at flying_numbers flight_of memory.seen along cell part dropped advanced settled passed at_least acknowledged_by una_of place pushed_at push_at reached skipped listed distance stored_in held_at stored_at cleared put moved_at move_buf_at ready_at ready_of leading acks_at list_at skips_at fastack_at in_range raised_from grown_by
 pushed = refl
 
 -- an ack of 12 with una 11: 10 is dropped and 12 taken out, 11 gains a fastack, the time is measured, and the window grows
 acknowledged : read_at (block 0) (lists rcv_words []) (8 ∷ 8 ∷ 8 ∷ 8 ∷ []) (three flying 0) (header_bytes (said 82 100 12 11 0))
     ≡ record {
       block = with_sender (with_estimator (with_congestion (block 0) (congestion 77 2 2752)) (record { srtt = 50; rttval = 25; rto = 150; minrto = 100 })) (sender 11 (ring 1 2 1 0));
-      answer = Are 24;
+      answer = Ok 24;
       skipped = 0;
       rcv = lists rcv_words [];
       acks = 8 ∷ 8 ∷ 8 ∷ 8 ∷ [];
       snd = three (1 ∷ 1 ∷ 0 ∷ []) 1;
     }
-unfolding block congestion awaits sender acklist rcv_words row three flying said read_at walk_of walk_from onward finished segment_at act_at effect_at begun adopted verdict_of differs adopts command_of pick header_at header_bytes una_at shrunk_at flying_numbers flight_of memory.seen along cell part dropped advanced settled passed at_least acknowledged_by una_of place acked_at acked measured timed signed32 ack_at shrunk_side removed_at found in_range meets seek sought ends_at taken_out gapped later fastack_at counts raised_from raised_one fastack_of gains put grown_by grown opened cut_to
+unfolding block congestion awaits sender acklist rcv_words row three flying said read_at walk_of walk_from onward finished segment_at act_at effect_at begun adopted verdict_of differs adopts command_of pick header_at header_bytes una_at shrunk_at flying_numbers flight_of memory.seen along cell part dropped advanced settled passed at_least acknowledged_by una_of place acked_at acked measured timed signed32 ack_at shrunk_side removed_at found in_range meets seek sought ends_at taken_out gapped later fastack_at raised_from raised_one fastack_of gains put grown_by grown opened cut_to
 acknowledged = refl
 
 -- the ack list is full: the push is skipped, though una 11 is obeyed; the cmd 99 behind it is refused, so that neither fastack nor growth comes
 skips : read_at (block 2) (lists rcv_words []) (8 ∷ 8 ∷ 8 ∷ 8 ∷ []) (three flying 0) (header_bytes (said 81 50 10 11 0) ++ header_bytes (said 99 50 10 13 0))
     ≡ record {
       block = with_sender (with_congestion (block 2) (congestion 77 1 1376)) (sender 11 (ring 1 2 2 0));
-      answer = NoBytes (UnsupportedCmd 99);
+      answer = Err (UnsupportedCmd 99);
       skipped = 1;
       rcv = lists rcv_words [];
       acks = 8 ∷ 8 ∷ 8 ∷ 8 ∷ [];

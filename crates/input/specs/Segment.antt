@@ -1,13 +1,12 @@
 -- One segment of a datagram: what 01's Input does with it, on the block and on every number and byte of the lent memory.
 -- "Per segment 2, then 3, then 4"; "If waiting for a conv, a differing conv is adopted and waiting ends, before len and cmd are looked at. Then
 -- rmt_wnd = wnd; send-buffer segments are dropped ..; snd_una = front number, or snd_nxt", and Push, Ack, Ask and Tell. Assumes nothing.
-use Rattle.std.specs.Prelude.{ℕ, ◌+◌, ◌-◌, ◌≡◌, Bool, false, not, ◌&&◌, List, length, eqb, ltb}
+use Rattle.std.specs.Prelude.{ℕ, ◌+◌, ◌-◌, ◌≡◌, Bool, false, not, ◌&&◌, List, length, eqb, ltb, Option, Some, Result, Ok, Err}
 use Rattle.serial.specs.Branch.{pick}
 use Rattle.wire.specs.declared.Header.{Header}
+use Rattle.wire.specs.declared.UnsupportedCmd.{UnsupportedCmd as Unsupported}
 use Rattle.wire.specs.declared.Kind.{Kind}
 use Rattle.wire.specs.declared.Kind.TheVariants.{Push, Ack, Ask, Tell}
-use Rattle.wire.specs.declared.Command.{Command}
-use Rattle.wire.specs.declared.Command.TheVariants.{Known, Unknown}
 use Rattle.wire.specs.Header.{header_at}
 use Rattle.wire.specs.Commands.{command_of}
 use Rattle.estimator.specs.Estimate.{acked}
@@ -18,16 +17,12 @@ use Rattle.block.specs.declared.congestion.Congestion.{Congestion}
 use Rattle.block.specs.declared.Kcp.{Kcp}
 use Rattle.block.specs.declared.refusal.Refusal.{Refusal}
 use Rattle.block.specs.declared.refusal.Refusal.TheVariants.{ConvInconsistent, InvalidSegmentDataSize, UnsupportedCmd}
-use Rattle.block.specs.declared.refusal.Bytes.{Bytes}
-use Rattle.block.specs.declared.refusal.Bytes.TheVariants.{Are, Refused as NoBytes}
 use Rattle.block.specs.Parts.{with_settings, with_conv, with_input_conv, with_congestion, with_sender, with_receiver, with_ack_list, with_estimator, with_probe}
 use Rattle.receiving.specs.Rules.{Segment}
 use Rattle.receive.specs.Memory.{full_at, push_at, acks_at, list_at, skips_at, with_tell}
-use Rattle.sending.specs.declared.Latest.{Latest}
+use Rattle.sending.specs.declared.Ack.{Ack as AckSeen}
 use Rattle.sending.specs.Rules.{later}
 use Rattle.transmit.specs.Memory.{una_at, ack_at}
-use Rattle.input.specs.declared.Verdict.{Verdict}
-use Rattle.input.specs.declared.Verdict.TheVariants.{Goes, Refused}
 
 -- ---- the verdict, by numbers alone; `left` are the bytes behind the header
 
@@ -40,21 +35,21 @@ unfoldable pub differs : ℕ → Bool → ℕ → Bool
 differs own waiting met = not waiting && not (eqb met own)
 
 -- "4 | cmd not 81 to 84"
-abbrev pub of_command : Command → Verdict
-of_command (Known kind) = Goes kind
-of_command (Unknown cmd) = Refused (UnsupportedCmd cmd)
+abbrev pub of_command : Result Kind Unsupported → Result Kind Refusal
+of_command (Ok kind) = Ok kind
+of_command (Err e) = Err (UnsupportedCmd e.cmd)
 
 -- "3 | len exceeds bytes left"
-unfoldable pub verdict_of : ℕ → Bool → Header → ℕ → Verdict
+unfoldable pub verdict_of : ℕ → Bool → Header → ℕ → Result Kind Refusal
 verdict_of own waiting h left =
-    pick (differs own waiting h.conv) (Refused (ConvInconsistent own h.conv))
-    (pick (ltb left h.len) (Refused (InvalidSegmentDataSize h.len left)) (of_command (command_of h.cmd)))
+    pick (differs own waiting h.conv) (Err (ConvInconsistent own h.conv))
+    (pick (ltb left h.len) (Err (InvalidSegmentDataSize h.len left)) (of_command (command_of h.cmd)))
 
 -- ---- the block, what the acks of the datagram gave, how many of its pushes were skipped, and the lent memory
 
 pub record Met : Type 0 where
   pub block : Kcp
-  pub latest : Latest
+  pub latest : Option AckSeen
   pub skipped : ℕ
   pub rcv : Lists
   pub acks : List ℕ
@@ -99,7 +94,7 @@ acked_at h m =
     let x = ack_at h.sn k.sender m.snd in
     record {
       block = with_sender (with_estimator k (acked k.estimator k.clock.current h.ts k.clock.interval)) x.sender;
-      latest = later m.latest h.sn h.ts;
+      latest = Some (later m.latest (record { sn = h.sn; ts = h.ts }));
       skipped = m.skipped;
       rcv = m.rcv;
       acks = m.acks;
@@ -131,11 +126,11 @@ abbrev pub payload_at : List ℕ → ℕ → ℕ → List ℕ
 payload_at s at len = part s (at + 24) len
 
 -- a refused segment leaves "earlier effects, adopted conv"
-unfoldable pub act_at : List ℕ → ℕ → Header → Met → Verdict → Walked
-act_at s at h m (Goes kind) =
+unfoldable pub act_at : List ℕ → ℕ → Header → Met → Result Kind Refusal → Walked
+act_at s at h m (Ok kind) =
     let k = adopted h.conv m.block in
     record { met = effect_at kind h (payload_at s at h.len) (with_block m (begun h k m.snd)); end = through (at + 24 + h.len) }
-act_at s at h m (Refused why) = record { met = with_block m (adopted h.conv m.block); end = stopped why }
+act_at s at h m (Err why) = record { met = with_block m (adopted h.conv m.block); end = stopped why }
 
 unfoldable pub segment_at : List ℕ → ℕ → Met → Walked
 segment_at s at m =
@@ -144,15 +139,10 @@ segment_at s at m =
 
 -- ---- what the code answers of a segment
 
--- the answer that goes with a verdict; it is asked only of a refusal
-abbrev pub refused_by : Verdict → Bytes
-refused_by (Goes kind) = Are 0
-refused_by (Refused why) = NoBytes why
+abbrev pub answer_of : End → Result ℕ Refusal
+answer_of (through n) = Ok n
+answer_of (stopped why) = Err why
 
-abbrev pub answer_of : End → Bytes
-answer_of (through n) = Are n
-answer_of (stopped why) = NoBytes why
-
-pub record SegmentAs (s : List ℕ) (at : ℕ) (m : Met) (m' : Met) (answer : Bytes) : Type 0 where
+pub record SegmentAs (s : List ℕ) (at : ℕ) (m : Met) (m' : Met) (answer : Result ℕ Refusal) : Type 0 where
   pub met : m' ≡ (segment_at s at m).met
   pub answered : answer ≡ answer_of (segment_at s at m).end

@@ -1,4 +1,4 @@
-// One segment and one datagram of input.
+// One segment and one datagram of input. The lists are handed one by one, as kcp_input has them.
 #![tactic(auto)]
 
 ghost use Rattle.std.specs.Prelude.{◌≡◌, List, ℕ, ◌+◌, ◌≤◌, ◌<◌, length};
@@ -6,91 +6,69 @@ ghost use Rattle.ring.specs.Lists.{Lists, lists};
 ghost use Rattle.snd_ring.specs.Store.{Store, store_of};
 ghost use Rattle.receive.specs.Fits.{Good};
 ghost use Rattle.transmit.specs.Fits.{Lies};
-ghost use Rattle.input.specs.Segment.{adopts, differs, of_command, verdict_of, adopted, begun, push_of, pushed_at, acked_at, asked, effect_at, refused_by, SegmentAs};
+ghost use Rattle.input.specs.Segment.{adopts, differs, verdict_of, adopted, begun, push_of, pushed_at, acked_at, asked, effect_at, SegmentAs};
 ghost use Rattle.input.specs.Datagram.{grown_by, read_at, WalkedAs};
 
 use block::Kcp;
 use block::congestion::Congestion;
-use block::refusal::{Bytes, Refusal};
-use estimator::after_ack;
-use sending::{Latest, Window};
-use wire::{Command, Header, Kind};
+use block::refusal::Refusal;
+use block::settings::Settings;
+use sending::{Ack, Window};
+use wire::{Header, Kind};
 
 // The block so far, what the acks of the datagram gave, and how many of its pushes were skipped.
 #[derive(Clone, Copy)]
 pub struct Walk {
     pub block: Kcp,
-    pub latest: Latest,
+    pub latest: Option<Ack>,
     pub skipped: u32,
 }
 
-// What is to be done with a segment.
-#[derive(Clone, Copy)]
-pub enum Verdict {
-    Goes { kind: Kind },
-    Refused { why: Refusal },
-}
-
 // Whether a conv is adopted: it differs, and one is awaited.
+#[tactic(auto, unfolding(crate::specs::Segment::adopts))]
 fn adopts(own: u32, waiting: bool, met: u32) -> bool
     ensures { result ≡ adopts own waiting met }
 {
-    if waiting { met != own } else { false }
+    waiting && met != own
 }
 
 // Whether a conv is refused: it differs, and none is awaited.
+#[tactic(auto, unfolding(crate::specs::Segment::differs))]
 fn differs(own: u32, waiting: bool, met: u32) -> bool
     ensures { result ≡ differs own waiting met }
 {
-    if waiting { false } else { met != own }
+    !waiting && met != own
 }
 
-// What is to be done with the segment that has this header, by the numbers alone.
-fn judge(own: u32, waiting: bool, h: Header, left: usize) -> Verdict
+// What is to be done with the segment that has this header, by the numbers alone: its kind, or why it is refused.
+fn judge(own: u32, waiting: bool, h: Header, left: usize) -> Result<Kind, Refusal>
     ensures { result ≡ verdict_of own waiting h left }
 {
     if differs(own, waiting, h.conv) {
-        return Verdict::Refused {
-            why: Refusal::ConvInconsistent {
-                own: own,
-                met: h.conv,
-            },
-        };
+        return Err(Refusal::ConvInconsistent { own, met: h.conv });
     }
     if left < h.len as usize {
-        return Verdict::Refused {
-            why: Refusal::InvalidSegmentDataSize {
-                len: h.len,
-                left: left,
-            },
-        };
+        return Err(Refusal::InvalidSegmentDataSize { len: h.len, left });
     }
-    of_command(wire::command_of(h.cmd))
-}
-
-// A cmd that is none of the four is refused.
-fn of_command(command: Command) -> Verdict
-    ensures { result ≡ of_command command }
-{
-    match command {
-        Command::Known { kind } => Verdict::Goes { kind: kind },
-        Command::Unknown { cmd } => Verdict::Refused {
-            why: Refusal::UnsupportedCmd { cmd: cmd },
-        },
-    }
+    Ok(Kind::try_from(h.cmd)?)
 }
 
 // The block with a differing conv adopted, if one is awaited.
 fn adopt(block: Kcp, met: u32) -> Kcp
     ensures { result ≡ adopted met block }
 {
-    let mut settings = block.settings;
+    let settings = block.settings;
     if !adopts(settings.conv, settings.input_conv, met) {
         return block;
     }
-    settings.conv = met;
-    settings.input_conv = false;
-    block.with_settings(settings)
+    Kcp {
+        settings: Settings {
+            conv: met,
+            input_conv: false,
+            ..settings
+        },
+        ..block
+    }
 }
 
 // The block with the peer's window, and what una leaves of the sending side.
@@ -98,10 +76,14 @@ fn begin(block: Kcp, snd_records: &[u32], h: Header) -> Kcp
     requires { Lies block.sender snd_records.now }
     ensures { (room : List ℕ) → result ≡ begun h block (store_of 8 (lists snd_records.now room)) }
 {
-    let mut congestion = block.congestion;
-    congestion.rmt_wnd = h.wnd;
-    let sender = transmit::parse_una(block.sender, snd_records, h.una);
-    block.with_congestion(congestion).with_sender(sender)
+    Kcp {
+        congestion: Congestion {
+            rmt_wnd: h.wnd,
+            ..block.congestion
+        },
+        sender: transmit::parse_una(block.sender, snd_records, h.una),
+        ..block
+    }
 }
 
 // A push, with the receive memory and the ack list.
@@ -121,7 +103,6 @@ fn push(
         ≡ pushed_at (push_of h payload.now) h.ts (record { block = walk.block; latest = walk.latest; skipped = walk.skipped; rcv = lists rcv_records.old rcv_room.old; acks = acks.old; snd = snd }) }
 {
     let block = walk.block;
-    let latest = walk.latest;
     let out = receive::push(
         block.receiver,
         block.acklist,
@@ -135,8 +116,12 @@ fn push(
     );
     Walk {
         skipped: walk.skipped + out.skipped,
-        block: block.with_receiver(out.receiver).with_acklist(out.acklist),
-        latest: latest,
+        block: Kcp {
+            receiver: out.receiver,
+            acklist: out.acklist,
+            ..block
+        },
+        ..walk
     }
 }
 
@@ -147,14 +132,18 @@ fn ack(walk: Walk, snd_records: &mut [u32], h: Header) -> Walk
         ≡ acked_at h (record { block = walk.block; latest = walk.latest; skipped = walk.skipped; rcv = rcv; acks = acks; snd = store_of 8 (lists snd_records.old room) }) }
 {
     let block = walk.block;
-    let latest = walk.latest;
     let clock = block.clock;
     let sender = transmit::parse_ack(block.sender, snd_records, h.sn);
-    let measured = after_ack(block.estimator, clock.current, h.ts, clock.interval);
+    let mut measured = block.estimator;
+    measured.update_ack(clock.current, h.ts, clock.interval);
     Walk {
-        block: block.with_estimator(measured).with_sender(sender),
-        latest: latest.later(h.sn, h.ts),
-        skipped: walk.skipped,
+        block: Kcp {
+            estimator: measured,
+            sender,
+            ..block
+        },
+        latest: Some(Ack { sn: h.sn, ts: h.ts }.behind(walk.latest)),
+        ..walk
     }
 }
 
@@ -163,11 +152,12 @@ fn ask(walk: Walk) -> Walk
     ensures { result ≡ record { block = asked walk.block; latest = walk.latest; skipped = walk.skipped } }
 {
     let block = walk.block;
-    let latest = walk.latest;
     Walk {
-        block: block.with_probe(receive::tell(block.probe)),
-        latest: latest,
-        skipped: walk.skipped,
+        block: Kcp {
+            probe: receive::tell(block.probe),
+            ..block
+        },
+        ..walk
     }
 }
 
@@ -202,20 +192,10 @@ fn act(
 #[derive(Clone, Copy)]
 pub struct Walked {
     pub walk: Walk,
-    pub answer: Bytes,
+    pub answer: Result<usize, Refusal>,
 }
 
-// The answer of a refused segment; it is asked only of a refusal.
-fn refused(verdict: Verdict) -> Bytes
-    ensures { result ≡ refused_by verdict }
-{
-    match verdict {
-        Verdict::Goes { kind: _ } => Bytes::Are { count: 0 },
-        Verdict::Refused { why } => Bytes::Refused { why: why },
-    }
-}
-
-// The segment at byte `at` of the datagram: the verdict, then what it does.
+// The segment at byte `at` of the datagram: the verdict, then what it does. A place and no slice of the rest, since the rules speak of the place.
 fn segment(
     walk: Walk,
     rcv_records: &mut [u32],
@@ -240,7 +220,6 @@ fn segment(
     let h = wire::read_header(datagram, at);
     let block = walk.block;
     let settings = block.settings;
-    let latest = walk.latest;
     let verdict = judge(
         settings.conv,
         settings.input_conv,
@@ -248,22 +227,23 @@ fn segment(
         datagram.len() - at - 24,
     );
     let known = adopt(block, h.conv);
-    let Verdict::Goes { kind } = verdict else {
-        return Walked {
-            walk: Walk {
-                block: known,
-                latest: latest,
-                skipped: walk.skipped,
-            },
-            answer: refused(verdict),
-        };
+    let kind = match verdict {
+        Ok(kind) => kind,
+        Err(why) => {
+            return Walked {
+                walk: Walk {
+                    block: known,
+                    ..walk
+                },
+                answer: Err(why),
+            };
+        }
     };
     let from = at + 24;
     let next = from + h.len as usize;
     let begun = Walk {
         block: begin(known, snd_records, h),
-        latest: latest,
-        skipped: walk.skipped,
+        ..walk
     };
     Walked {
         walk: act(
@@ -276,11 +256,12 @@ fn segment(
             h,
             &datagram[from..next],
         ),
-        answer: Bytes::Are { count: next },
+        answer: Ok(next),
     }
 }
 
-// The segments of a datagram, one after the other while 24 bytes or more remain, up to the first that is refused.
+// The segments of a datagram, one after the other while 24 bytes or more remain, up to the first that is refused. A place
+// and no iterator, since how long a segment is stands in its header.
 fn walk_all(
     start: Walk,
     rcv_records: &mut [u32],
@@ -304,7 +285,7 @@ fn walk_all(
     while 24 <= datagram.len() - at {
         let met = segment(walk, rcv_records, rcv_room, acks, snd_records, datagram, at);
         let answer = met.answer;
-        let Bytes::Are { count } = answer else {
+        let Ok(count) = answer else {
             return met;
         };
         let left = met.walk;
@@ -312,8 +293,8 @@ fn walk_all(
         at = count;
     }
     Walked {
-        walk: walk,
-        answer: Bytes::Are { count: at },
+        walk,
+        answer: Ok(at),
     }
 }
 
@@ -331,11 +312,9 @@ fn grown_by(congestion: Congestion, mss: u32, before: u32, una: u32) -> Congesti
     };
     let grown = window.grown(mss, congestion.ssthresh, congestion.rmt_wnd);
     Congestion {
-        snd_wnd: congestion.snd_wnd,
-        rmt_wnd: congestion.rmt_wnd,
         cwnd: grown.cwnd,
-        ssthresh: congestion.ssthresh,
         incr: grown.incr,
+        ..congestion
     }
 }
 
@@ -343,7 +322,7 @@ fn grown_by(congestion: Congestion, mss: u32, before: u32, una: u32) -> Congesti
 #[derive(Clone, Copy)]
 pub struct Outcome {
     pub block: Kcp,
-    pub answer: Bytes,
+    pub answer: Result<usize, Refusal>,
     pub skipped: u32,
 }
 
@@ -369,8 +348,8 @@ pub fn read(
     let before = block.sender;
     let met = walk_all(
         Walk {
-            block: block,
-            latest: Latest::new(),
+            block,
+            latest: None,
             skipped: 0,
         },
         rcv_records,
@@ -382,10 +361,10 @@ pub fn read(
     let walk = met.walk;
     let known = walk.block;
     let answer = met.answer;
-    let Bytes::Are { count } = answer else {
+    let Ok(count) = answer else {
         return Outcome {
             block: known,
-            answer: answer,
+            answer,
             skipped: walk.skipped,
         };
     };
@@ -398,8 +377,11 @@ pub fn read(
         sender.snd_una,
     );
     Outcome {
-        block: known.with_congestion(congestion),
-        answer: Bytes::Are { count: count },
+        block: Kcp {
+            congestion,
+            ..known
+        },
+        answer: Ok(count),
         skipped: walk.skipped,
     }
 }

@@ -1,5 +1,6 @@
 -- "That any two outcomes meeting it coincide is itself proved": of every public call one row, its contract twice and the two outcomes equal. Where a contract is
 -- an equation, the outcome is what it names. Assumes nothing.
+use Rattle.std.specs.Prelude.{Result}
 use Prim.Native.Nat.{ℕ, ◌+◌}
 use mathlib.Core.Path.{◌≡◌, sym, ◌∙◌}
 use mathlib.Core.Bool.{Bool}
@@ -7,7 +8,6 @@ use mathlib.Core.List.{List}
 use lib.IntN.{ℤ}
 use Rattle.serial.specs.Branch.{pick}
 use Rattle.ring.specs.Lists.{Lists}
-use Rattle.wire.specs.declared.Put.{Put}
 use Rattle.wire.specs.Header.{conv_of, sn_of}
 use Rattle.wire.specs.Helpers.{Got, ConvSet}
 use Rattle.block.specs.declared.Kcp.{Kcp}
@@ -19,6 +19,7 @@ use Rattle.kcp_receive.specs.Calls.{Promised, move_buf_of, Peeked, Receives, set
 use Rattle.kcp_send.specs.Send.{Sends}
 use Rattle.kcp_input.specs.Input.{Inputs}
 use Rattle.kcp_flush.specs.Calls.{FlushesAck, Flushes, Updates, Checks}
+use Rattle.wire.specs.declared.ShortHeader.{ShortHeader}
 
 -- at most one outcome meets it
 abbrev pub Once : {A : Type 0} → (A → Type 0) → Type 0
@@ -68,7 +69,7 @@ module _ (k : Kcp) (rcv snd : Lists) (acks waiting : List ℕ) where
     -- of the header helpers, which are handed no block: set_conv with the bytes that it leaves
     pub get_conv : (buf : List ℕ) → Once (Got conv_of buf)
     pub get_sn : (buf : List ℕ) → Once (Got sn_of buf)
-    pub put_conv : (buf : List ℕ) (conv : ℕ) (r s : Put) (after then : List ℕ) → ConvSet buf conv r after → ConvSet buf conv s then → (r ≡ s) × (after ≡ then)
+    pub put_conv : (buf : List ℕ) (conv : ℕ) (r s : Result Unit ShortHeader) (after then : List ℕ) → ConvSet buf conv r after → ConvSet buf conv s then → (r ≡ s) × (after ≡ then)
 
   same : {A : Type 0} {a x y : A} → x ≡ a → y ≡ a → x ≡ y
   same p q = p ∙ sym q

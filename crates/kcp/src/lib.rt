@@ -2,6 +2,7 @@
 // below, with the same contract: for all inputs it says the answer, the block and every lent number and byte afterwards, and requires nothing.
 // The block is a plain value, and what it keeps stands in lent memory: records and room of the receive side, records and room of the sending side, the ack
 // list, and the bytes that wait. get_conv, set_conv and get_sn, which read and write a header, are the module `header`.
+// Functions beside the methods of `Kcp` (block): the face is named by README and docs/READING.md, and shows each call's promise in one place.
 #![tactic(auto)]
 
 mod header;
@@ -20,14 +21,12 @@ ghost use Rattle.kcp_input.specs.Input.{Inputs};
 ghost use Rattle.kcp_flush.specs.Calls.{FlushesAck, Flushes, Updates, Checks};
 
 use block::Kcp;
-use block::make::Made;
+use block::refusal::Refusal;
 use block::set::Set;
 use input::Outcome;
-use kcp_flush::Wait;
 use kcp_receive::Received;
 use kcp_send::Sent;
 use output::Out;
-use receive::Length;
 
 // ---- making a block
 
@@ -40,7 +39,7 @@ pub fn new(
     snd_room: &[u8],
     acks: &[u32],
     waiting: &[u8],
-) -> Made
+) -> Result<Kcp, Refusal>
     ensures { Makes (record { rcv = lists rcv_records.now rcv_room.now; snd = lists snd_records.now snd_room.now; acks = acks.now; waiting = waiting.now }) (fresh_plain conv) result }
 {
     Kcp::new(
@@ -63,7 +62,7 @@ pub fn new_stream(
     snd_room: &[u8],
     acks: &[u32],
     waiting: &[u8],
-) -> Made
+) -> Result<Kcp, Refusal>
     ensures { Makes (record { rcv = lists rcv_records.now rcv_room.now; snd = lists snd_records.now snd_room.now; acks = acks.now; waiting = waiting.now }) (fresh_stream conv) result }
 {
     Kcp::new_stream(
@@ -96,7 +95,7 @@ pub fn recv(block: Kcp, records: &[u32], room: &[u8], buf: &mut [u8]) -> Receive
 }
 
 // The length of that message. Refused by 15, 5 or 6.
-pub fn peeksize(block: Kcp, records: &[u32], room: &[u8]) -> Length
+pub fn peeksize(block: Kcp, records: &[u32], room: &[u8]) -> Result<usize, Refusal>
     ensures { Peeked block (lists records.now room.now) result }
 {
     kcp_receive::peeksize(block, records, room)
@@ -173,7 +172,7 @@ pub fn input(
 // ---- settings
 
 // How long until the next update. Refused by 15.
-pub fn check(block: Kcp, current: u32, records: &[u32], room: &[u8]) -> Wait
+pub fn check(block: Kcp, current: u32, records: &[u32], room: &[u8]) -> Result<u32, Refusal>
     ensures { Checks block (lists records.now room.now) current result }
 {
     kcp_flush::check(block, current, records, room)

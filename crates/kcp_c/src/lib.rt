@@ -4,13 +4,13 @@
 ghost use Rattle.std.specs.Prelude.{◌≡◌, min, max};
 ghost use Rattle.serial.specs.Wrap.{timediff};
 ghost use Rattle.wire.specs.Header.{conv_of, sn_of, header_at, header_bytes};
-ghost use Rattle.wire.specs.Helpers.{got, put_of, number_of_put, with_conv};
+ghost use Rattle.wire.specs.Helpers.{got, put_of, number_of, with_conv};
 ghost use Rattle.estimator.specs.Estimate.{measured};
 ghost use Rattle.kcp_c.specs.Answered.{Answered};
 ghost use Rattle.kcp_c.specs.Numbers.{header, header_numbers, estimator, estimator_numbers};
 
 use estimator::Estimator;
-use wire::{Header, Number, Put};
+use wire::Header;
 
 pub mod calls; // the calls over a block's words
 pub mod receiver; // those that are handed the receive memory
@@ -39,8 +39,7 @@ pub extern "C" fn kcp_bound(low: u32, x: u32, high: u32) -> u32
 pub extern "C" fn kcp_get_conv(buf: &[u8], conv: &mut u32) -> u32
     ensures { Answered (got conv_of buf.now) conv.old result conv.new }
 {
-    let answer = wire::get_conv(buf);
-    let Number::Is(n) = answer else {
+    let Ok(n) = wire::get_conv(buf) else {
         return wire::SHORT_HEADER;
     };
     *conv = n;
@@ -52,8 +51,7 @@ pub extern "C" fn kcp_get_conv(buf: &[u8], conv: &mut u32) -> u32
 pub extern "C" fn kcp_get_sn(buf: &[u8], sn: &mut u32) -> u32
     ensures { Answered (got sn_of buf.now) sn.old result sn.new }
 {
-    let answer = wire::get_sn(buf);
-    let Number::Is(n) = answer else {
+    let Ok(n) = wire::get_sn(buf) else {
         return wire::SHORT_HEADER;
     };
     *sn = n;
@@ -63,10 +61,9 @@ pub extern "C" fn kcp_get_sn(buf: &[u8], sn: &mut u32) -> u32
 // Sets the conversation of the header at the front of `buf`; 0, or 16 under 24 bytes, which leaves all.
 #[unsafe(no_mangle)]
 pub extern "C" fn kcp_set_conv(buf: &mut [u8], conv: u32) -> u32
-    ensures { (result ≡ number_of_put (put_of buf.old)) × (buf.new ≡ with_conv buf.old conv) }
+    ensures { (result ≡ number_of (put_of buf.old)) × (buf.new ≡ with_conv buf.old conv) }
 {
-    let answer = wire::set_conv(buf, conv);
-    let Put::Done = answer else {
+    let Ok(()) = wire::set_conv(buf, conv) else {
         return wire::SHORT_HEADER;
     };
     0

@@ -61,12 +61,12 @@ pub extern "C" fn kcp_recv(
 pub extern "C" fn kcp_receive_test(words: &[u32], records: &[u32], room: &[u8]) -> u32
     ensures { result ≡ tested (λ k. receive_fits k (lists records.now room.now)) words.now }
 {
-    if !words::is_block(words) {
-        return 15;
-    }
-    let block = words::block(words);
+    let Some(block) = words::block_in(words) else {
+        return words::NO_BLOCK;
+    };
     if receive::fits(block.own_numbers(), block.receiver, records, room) {
-        return 0;
+        words::DONE
+    } else {
+        words::NO_BLOCK
     }
-    15
 }

@@ -27,12 +27,12 @@ pub extern "C" fn kcp_send(
 pub extern "C" fn kcp_send_test(words: &[u32], records: &[u32], room: &[u8]) -> u32
     ensures { result ≡ tested (λ k. send_fits k (lists records.now room.now)) words.now }
 {
-    if !words::is_block(words) {
-        return 15;
-    }
-    let block = words::block(words);
+    let Some(block) = words::block_in(words) else {
+        return words::NO_BLOCK;
+    };
     if transmit::fits(block.own_numbers(), block.sender, records, room) {
-        return 0;
+        words::DONE
+    } else {
+        words::NO_BLOCK
     }
-    15
 }

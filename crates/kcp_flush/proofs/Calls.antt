@@ -1,4 +1,7 @@
 -- What flush_ack, flush, update and check promise, at each of their tests; and that their tests give what the functions below them ask. Assumes nothing.
+use Rattle.std.specs.Prelude.{Option, Some, None}
+use Rattle.std.specs.Option.{is_none}
+use Rattle.std.specs.Prelude.{Result, Ok, Err}
 use Prim.Native.Nat.{ℕ, ◌*◌, ◌≤◌, ◌<◌, ◌^◌}
 use native.Mathlib.Omega.{arith}
 use mathlib.Core.Path.{◌≡◌, refl, sym, ap, ◌∙◌}
@@ -11,7 +14,7 @@ use Rattle.ring.specs.Lists.{Lists}
 use Rattle.snd_ring.specs.Store.{store_of, Sound}
 use Rattle.block.specs.declared.Kcp.{Kcp}
 use Rattle.block.specs.declared.refusal.Refusal.TheVariants.{NeedUpdate, BadPool}
-use Rattle.block.specs.Refusals.{number_of_answer, values_of_answer}
+use Rattle.block.specs.Refusals.{number_of_answer, values_of_answer, values_of_count}
 use Rattle.block.specs.Parts.{with_clock}
 use Rattle.block.specs.Sizes.{AckSizes, ack_sizes, pairs}
 use Rattle.block.specs.WellFormed.{own_numbers, OwnNumbers, ack_lent}
@@ -26,9 +29,8 @@ use Rattle.packing.specs.FlushAck.{Writing}
 use Rattle.output.specs.Memory.{outgoing, Out, unsent, FlushOut, flush_ack_at, flush_at, update_at, turn_at, check_at}
 use Rattle.output.proofs.Updates.{update-turn, flush-turn}
 use Rattle.output.proofs.Keeps.{Keeps, either, keeps_all, turn-keeps}
-use Rattle.kcp_flush.specs.declared.Wait.{Wait}
-use Rattle.kcp_flush.specs.declared.Wait.TheVariants.{Is, Refused}
-use Rattle.kcp_flush.specs.Calls.{ack_fits, flush_fits, flush_ack_of, ack_exceeds, FlushesAck, unflushed, flush_exceeds, flush_of, Flushes, update_of, Updates, turn_of, tick_of, number_of_wait, values_of_wait, check_of, Checks}
+use Rattle.kcp_flush.specs.Calls.{ack_fits, flush_fits, flush_ack_of, ack_exceeds, FlushesAck, unflushed, flush_exceeds, flush_of, Flushes, update_of, Updates, turn_of, tick_of, check_of, Checks}
+use Rattle.block.specs.declared.refusal.Refusal.{Refusal}
 
 -- a choice between two of which f tells the same
 either_way : {A B : Type 0} (f : A → B) (t : Bool) (a b : A) {x : B} → f a ≡ x → f b ≡ x → f (pick t a b) ≡ x
@@ -175,12 +177,10 @@ module _ (k : Kcp) (snd : Lists) (acks : List ℕ) (w : Writing) where
     update_promise e = record { is = e; refusal = ap number_by e ∙ update-number; values = ap values_by e ∙ update-values }
 
   -- the two by one function
-  pub flush_by : (current : ℕ) {o : FlushOut} → o ≡ turn_of k snd acks w false current → Flushes k snd acks w o
-  unfolding pick
-  flush_by current e = flush_promise e
+  pub flush_by : {o : FlushOut} → o ≡ turn_of k snd acks w None → Flushes k snd acks w o
+  flush_by e = flush_promise e
 
-  pub update_by : (current : ℕ) {o : FlushOut} → o ≡ turn_of k snd acks w true current → Updates k snd acks w current o
-  unfolding pick
+  pub update_by : (current : ℕ) {o : FlushOut} → o ≡ turn_of k snd acks w (Some current) → Updates k snd acks w current o
   update_by current e = update_promise current e
 
   asks : well ≡ true → OwnNumbers k × ((2 * k.acklist.acks ≤ length acks) × ((length w.waiting ≡ 1500) × Sound 8 k.sender.ring (store_of 8 snd)))
@@ -210,24 +210,26 @@ module _ (k : Kcp) (snd : Lists) (acks : List ℕ) (w : Writing) where
         (λ h. either (Keeps k) k.clock.updated (λ u. rw (flush-turn k (store_of 8 snd) acks w) (by_tick (record { clock = k.clock; flushes = true }) refl h)) (λ u. keeps_all k w NeedUpdate (store_of 8 snd)))
         (λ h. keeps_all k w BadPool (store_of 8 snd))
 
-    pub turn-kept : (sets : Bool) (current : ℕ) → Keeps k (turn_of k snd acks w sets current)
-    turn-kept sets current = either (Keeps k) sets (λ e. update-kept current) (λ e. flush-kept)
+    pub turn-kept : (time : Option ℕ) → Keeps k (turn_of k snd acks w time)
+    turn-kept (Some current) = update-kept current
+    turn-kept None = flush-kept
 
   -- they do not fit, or the ack memory is of no size
-  turn-unfit : (sets : Bool) (current : ℕ) → well ≡ false → unflushed k snd w BadPool ≡ turn_of k snd acks w sets current
+  turn-unfit : (time : Option ℕ) → well ≡ false → unflushed k snd w BadPool ≡ turn_of k snd acks w time
   unfolding flush_of update_of
-  turn-unfit sets current h = sym (either_way (λ (o : FlushOut). o) sets _ _ (pick-false _ _ h) (pick-false _ _ h))
+  turn-unfit (Some current) h = sym (pick-false _ _ h)
+  turn-unfit None h = sym (pick-false _ _ h)
 
-  pub turn_unsized : (sets : Bool) (current : ℕ) → ack_sizes (length acks) (length w.waiting) ≡ false → unflushed k snd w BadPool ≡ turn_of k snd acks w sets current
+  pub turn_unsized : (time : Option ℕ) → ack_sizes (length acks) (length w.waiting) ≡ false → unflushed k snd w BadPool ≡ turn_of k snd acks w time
   unfolding flush_fits ack_lent
-  turn_unsized sets current z =
-      turn-unfit sets current
+  turn_unsized time z =
+      turn-unfit time
       (together (own_numbers k) (send_lent k.sender snd) (ack_lent k.acklist acks w.waiting) ∙ rw z (never (own_numbers k && send_lent k.sender snd)))
 
   -- t tells whether block and memory fit
-  module _ (sets : Bool) (current : ℕ) {t : Bool} (tested : t ≡ well) where
-    pub turn-bad : not t ≡ true → unflushed k snd w BadPool ≡ turn_of k snd acks w sets current
-    turn-bad h = turn-unfit sets current (sym tested ∙ not-true t h)
+  module _ (time : Option ℕ) {t : Bool} (tested : t ≡ well) where
+    pub turn-bad : not t ≡ true → unflushed k snd w BadPool ≡ turn_of k snd acks w time
+    turn-bad h = turn-unfit time (sym tested ∙ not-true t h)
 
     module _ (passes : not t ≡ false) where
       all-well : well ≡ true
@@ -236,36 +238,36 @@ module _ (k : Kcp) (snd : Lists) (acks : List ℕ) (w : Writing) where
       pub turn-asks : OwnNumbers k × ((2 * k.acklist.acks ≤ length acks) × ((length w.waiting ≡ 1500) × Sound 8 k.sender.ring (store_of 8 snd)))
       turn-asks = asks all-well
 
-      pub turn-early : {e : Bool} → e ≡ (not sets && not k.clock.updated) → e ≡ true → unflushed k snd w NeedUpdate ≡ turn_of k snd acks w sets current
+      pub turn-early : {e : Bool} → e ≡ (is_none time && not k.clock.updated) → e ≡ true → unflushed k snd w NeedUpdate ≡ turn_of k snd acks w time
       unfolding flush_of pick
-      turn-early d h = of sets (sym d ∙ h)
+      turn-early d h = of time (sym d ∙ h)
         where
-          of : (s : Bool) → (not s && not k.clock.updated) ≡ true → unflushed k snd w NeedUpdate ≡ turn_of k snd acks w s current
-          of true e = cc
-          of false e = sym (pick_true _ _ all-well ∙ pick-false _ _ (not-true k.clock.updated e))
+          of : (s : Option ℕ) → (is_none s && not k.clock.updated) ≡ true → unflushed k snd w NeedUpdate ≡ turn_of k snd acks w s
+          of (Some current) e = cc
+          of None e = sym (pick_true _ _ all-well ∙ pick-false _ _ (not-true k.clock.updated e))
 
-      pub turn-done : {e : Bool} → e ≡ (not sets && not k.clock.updated) → e ≡ false → {o : FlushOut} {c : Tick} → c ≡ tick_of k.clock sets current → o ≡ turn_at c k (store_of 8 snd) acks w
-          → o ≡ turn_of k snd acks w sets current
+      pub turn-done : {e : Bool} → e ≡ (is_none time && not k.clock.updated) → e ≡ false → {o : FlushOut} {c : Tick} → c ≡ tick_of k.clock time → o ≡ turn_at c k (store_of 8 snd) acks w
+          → o ≡ turn_of k snd acks w time
       unfolding flush_of update_of pick
-      turn-done d h {o} f g = of sets (sym d ∙ h) (g ∙ ap (λ (c : Tick). turn_at c k (store_of 8 snd) acks w) f)
+      turn-done d h {o} f g = of time (sym d ∙ h) (g ∙ ap (λ (c : Tick). turn_at c k (store_of 8 snd) acks w) f)
         where
-          of : (s : Bool) → (not s && not k.clock.updated) ≡ false → o ≡ turn_at (tick_of k.clock s current) k (store_of 8 snd) acks w → o ≡ turn_of k snd acks w s current
-          of true e g = g ∙ sym (update-turn k (store_of 8 snd) acks w current) ∙ sym (pick_true _ _ all-well)
-          of false e g = g ∙ sym (flush-turn k (store_of 8 snd) acks w) ∙ sym (pick_true _ _ all-well ∙ pick_true _ _ (not-false k.clock.updated e))
+          of : (s : Option ℕ) → (is_none s && not k.clock.updated) ≡ false → o ≡ turn_at (tick_of k.clock s) k (store_of 8 snd) acks w → o ≡ turn_of k snd acks w s
+          of (Some current) e g = g ∙ sym (update-turn k (store_of 8 snd) acks w current) ∙ sym (pick_true _ _ all-well)
+          of None e g = g ∙ sym (flush-turn k (store_of 8 snd) acks w) ∙ sym (pick_true _ _ all-well ∙ pick_true _ _ (not-false k.clock.updated e))
 
 -- ---- check
 
 module _ (k : Kcp) (snd : Lists) (current : ℕ) where
-  check_promise : {r : Wait} → r ≡ check_of k snd current → Checks k snd current r
+  check_promise : {r : Result ℕ Refusal} → r ≡ check_of k snd current → Checks k snd current r
   unfolding check_of
   check_promise e = record {
     is = e;
-    refusal = ap number_of_wait e ∙ pick-ap number_of_wait (send_fits k snd) _ _;
-    values = ap values_of_wait e ∙ pick-ap values_of_wait (send_fits k snd) _ _;
+    refusal = ap number_of_answer e ∙ pick-ap number_of_answer (send_fits k snd) _ _;
+    values = ap values_of_count e ∙ pick-ap values_of_count (send_fits k snd) _ _;
   }
 
   module _ {t : Bool} (tested : t ≡ send_fits k snd) where
-    pub check-bad : not t ≡ true → Checks k snd current (Refused BadPool)
+    pub check-bad : not t ≡ true → Checks k snd current (Err BadPool)
     unfolding check_of
     check-bad h = check_promise (sym (pick-false _ _ (sym tested ∙ not-true t h)))
 
@@ -273,6 +275,6 @@ module _ (k : Kcp) (snd : Lists) (current : ℕ) where
       pub check-asks : Sound 8 k.sender.ring (store_of 8 snd)
       check-asks = sound_of {k = k} {l = snd} ((exactly k snd).holds (sym tested ∙ not-false t passes))
 
-      pub check_done : {n : ℕ} → n ≡ check_at current k (store_of 8 snd) → Checks k snd current (Is n)
+      pub check_done : {n : ℕ} → n ≡ check_at current k (store_of 8 snd) → Checks k snd current (Ok n)
       unfolding check_of
-      check_done e = check_promise (ap Is e ∙ sym (pick_true _ _ (sym tested ∙ not-false t passes)))
+      check_done e = check_promise (ap Ok e ∙ sym (pick_true _ _ (sym tested ∙ not-false t passes)))

@@ -1,7 +1,7 @@
 -- The public calls flush_ack, flush, update and check: for all inputs the answer, how many datagrams went out, the block and every lent number and byte
 -- afterwards. "15 before all", "9 before 13"; a call tests the memory that it is handed: flush_ack the ack memory, check the send memory, flush and
 -- update both. Assumes nothing.
-use Rattle.std.specs.Prelude.{ℕ, ◌≡◌, Bool, true, ◌&&◌, List, [], ◌∷◌, map, length}
+use Rattle.std.specs.Prelude.{ℕ, ◌≡◌, Bool, true, ◌&&◌, List, [], ◌∷◌, map, length, Option, Some, None, Result, Ok, Err}
 use Rattle.serial.specs.Branch.{pick}
 use Rattle.ring.specs.Lists.{Lists}
 use Rattle.snd_ring.specs.Store.{store_of}
@@ -9,7 +9,7 @@ use Rattle.block.specs.declared.Kcp.{Kcp}
 use Rattle.block.specs.declared.clock.Clock.{Clock}
 use Rattle.block.specs.declared.refusal.Refusal.{Refusal}
 use Rattle.block.specs.declared.refusal.Refusal.TheVariants.{NeedUpdate, BadPool}
-use Rattle.block.specs.Refusals.{number_of, values_of, number_of_answer, values_of_answer}
+use Rattle.block.specs.Refusals.{number_of_answer, values_of_answer, values_of_count}
 use Rattle.block.specs.Parts.{with_clock}
 use Rattle.block.specs.WellFormed.{own_numbers, ack_lent}
 use Rattle.transmit.specs.Fits.{send_lent, send_fits}
@@ -18,8 +18,6 @@ use Rattle.flushing.specs.Clocks.{ticked}
 use Rattle.flushing.specs.Rules.{exceeds, flushed_ack, flushed}
 use Rattle.packing.specs.FlushAck.{Writing, room_of}
 use Rattle.output.specs.Memory.{outgoing, Out, unsent, FlushOut, flush_ack_at, flush_at, update_at, check_at}
-use Rattle.kcp_flush.specs.declared.Wait.{Wait}
-use Rattle.kcp_flush.specs.declared.Wait.TheVariants.{Is, Refused}
 
 -- ---- "15 | block or lent memory not well formed, or a size outside the limits"
 
@@ -73,29 +71,23 @@ module _ (k : Kcp) (snd : Lists) (acks : List ℕ) (w : Writing) where
         ≡ pick (flush_fits k snd acks w.waiting) (pick (ticked k.clock current).flushes (pick (flush_exceeds (with_clock k (ticked k.clock current).clock) snd acks w) 13 0) 0) 15
     pub values : values_of_answer o.out.answer ≡ []
 
-  -- both as one: an update to that time, or a flush
-  abbrev pub turn_of : Bool → ℕ → FlushOut
-  turn_of sets current = pick sets (update_of current) flush_of
+  -- both as one: an update to a time, or a flush where none is given
+  abbrev pub turn_of : Option ℕ → FlushOut
+  turn_of (Some current) = update_of current
+  turn_of None = flush_of
 
 -- its clock: set, or as it is
-abbrev pub tick_of : Clock → Bool → ℕ → Tick
-tick_of c sets current = pick sets (ticked c current) (record { clock = c; flushes = true })
+abbrev pub tick_of : Clock → Option ℕ → Tick
+tick_of c (Some current) = ticked c current
+tick_of c None = record { clock = c; flushes = true }
 
 -- ---- check
 
 -- its number and values
-abbrev pub number_of_wait : Wait → ℕ
-number_of_wait (Is wait) = 0
-number_of_wait (Refused why) = number_of why
+unfoldable pub check_of : Kcp → Lists → ℕ → Result ℕ Refusal
+check_of k snd current = pick (send_fits k snd) (Ok (check_at current k (store_of 8 snd))) (Err BadPool)
 
-abbrev pub values_of_wait : Wait → List ℕ
-values_of_wait (Is wait) = wait ∷ []
-values_of_wait (Refused why) = values_of why
-
-unfoldable pub check_of : Kcp → Lists → ℕ → Wait
-check_of k snd current = pick (send_fits k snd) (Is (check_at current k (store_of 8 snd))) (Refused BadPool)
-
-pub record Checks (k : Kcp) (snd : Lists) (current : ℕ) (r : Wait) : Type 0 where
+pub record Checks (k : Kcp) (snd : Lists) (current : ℕ) (r : Result ℕ Refusal) : Type 0 where
   pub is : r ≡ check_of k snd current
-  pub refusal : number_of_wait r ≡ pick (send_fits k snd) 0 15
-  pub values : values_of_wait r ≡ pick (send_fits k snd) (check_at current k (store_of 8 snd) ∷ []) []
+  pub refusal : number_of_answer r ≡ pick (send_fits k snd) 0 15
+  pub values : values_of_count r ≡ pick (send_fits k snd) (check_at current k (store_of 8 snd) ∷ []) []

@@ -1,4 +1,5 @@
 -- What input promises, on each side of its tests. Assumes nothing.
+use Rattle.std.specs.Prelude.{Err}
 use Prim.Native.Nat.{ℕ, ◌≤◌, ◌<◌, zero-le}
 use mathlib.Core.Path.{◌≡◌, sym, ap, ◌∙◌}
 use mathlib.Core.Bool.{Bool, true, false, not}
@@ -11,8 +12,7 @@ use Rattle.snd_ring.specs.Store.{Store, store_of}
 use Rattle.block.specs.declared.Kcp.{Kcp}
 use Rattle.block.specs.declared.refusal.Refusal.{Refusal}
 use Rattle.block.specs.declared.refusal.Refusal.TheVariants.{BadPool, DatagramTooBig, InvalidSegmentSize}
-use Rattle.block.specs.declared.refusal.Bytes.TheVariants.{Refused}
-use Rattle.block.specs.Refusals.{number_of, values_of, number_of_bytes, values_of_bytes}
+use Rattle.block.specs.Refusals.{number_of, values_of, number_of_answer, values_of_count}
 use Rattle.input.specs.declared.Outcome.{Outcome}
 use Rattle.input.specs.Datagram.{ReadOut, read_at}
 use Rattle.input.proofs.Ends.{read_number, read-values}
@@ -24,7 +24,7 @@ module _ (k : Kcp) (rcv : Lists) (acks waiting : List ℕ) (snd : Lists) (s : Li
 
   -- refused before any segment is read
   abbrev Unread : Refusal → Type 0
-  Unread why = (r : Outcome) → r ≡ record { block = k; answer = Refused why; skipped = 0 } → Inputs k rcv acks waiting snd s (out r rcv acks (store_of 8 snd))
+  Unread why = (r : Outcome) → r ≡ record { block = k; answer = Err why; skipped = 0 } → Inputs k rcv acks waiting snd s (out r rcv acks (store_of 8 snd))
 
   refuse : (why : Refusal) → input_of k rcv acks waiting snd s ≡ unread k rcv acks (store_of 8 snd) why → input_number k rcv acks waiting snd s ≡ number_of why
       → input_values k rcv acks waiting snd s ≡ values_of why → Unread why
@@ -62,7 +62,7 @@ module _ (k : Kcp) (rcv : Lists) (acks waiting : List ℕ) (snd : Lists) (s : Li
             let t = le-ltb (length s) 24 h in
             record {
               is = e ∙ sym (pick_true _ _ fit ∙ pick-false _ _ n ∙ pick-false _ _ t);
-              refusal = ap (λ (o : ReadOut). number_of_bytes o.answer) e ∙ read_number k rcv acks (store_of 8 snd) s ∙ sym (pick_true _ _ fit ∙ pick-false _ _ n ∙ pick-false _ _ t);
-              values = ap (λ (o : ReadOut). values_of_bytes o.answer) e ∙ read-values k rcv acks (store_of 8 snd) s ∙ sym (pick_true _ _ fit ∙ pick-false _ _ n ∙ pick-false _ _ t);
+              refusal = ap (λ (o : ReadOut). number_of_answer o.answer) e ∙ read_number k rcv acks (store_of 8 snd) s ∙ sym (pick_true _ _ fit ∙ pick-false _ _ n ∙ pick-false _ _ t);
+              values = ap (λ (o : ReadOut). values_of_count o.answer) e ∙ read-values k rcv acks (store_of 8 snd) s ∙ sym (pick_true _ _ fit ∙ pick-false _ _ n ∙ pick-false _ _ t);
               few = f;
             }

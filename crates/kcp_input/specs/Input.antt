@@ -1,20 +1,19 @@
 -- "15 before all; 11 or 1 next; per segment 2, then 3, then 4": one datagram, with the memory of both sides and the ack memory. For all inputs the
 -- answer, the skipped pushes, the block and every lent number and byte afterwards. Assumes nothing.
-use Rattle.std.specs.Prelude.{ℕ, ◌≤◌, ◌≡◌, Bool, ◌&&◌, List, [], ◌∷◌, length, ltb}
+use Rattle.std.specs.Prelude.{ℕ, ◌≤◌, ◌≡◌, Bool, ◌&&◌, List, [], ◌∷◌, length, ltb, Err}
 use Rattle.serial.specs.Branch.{pick}
 use Rattle.ring.specs.Lists.{Lists}
 use Rattle.snd_ring.specs.Store.{Store, store_of}
 use Rattle.block.specs.declared.Kcp.{Kcp}
 use Rattle.block.specs.declared.refusal.Refusal.{Refusal}
 use Rattle.block.specs.declared.refusal.Refusal.TheVariants.{BadPool, DatagramTooBig, InvalidSegmentSize}
-use Rattle.block.specs.declared.refusal.Bytes.TheVariants.{Refused}
-use Rattle.block.specs.Refusals.{number_of_bytes, values_of_bytes}
 use Rattle.block.specs.Sizes.{AckSizes, pairs}
 use Rattle.block.specs.WellFormed.{own_numbers, OwnNumbers, ack_lent}
 use Rattle.receive.specs.Fits.{receive_lent, ReceiveLent}
 use Rattle.transmit.specs.Fits.{send_lent, SendLent}
 use Rattle.input.specs.Segment.{End}
 use Rattle.input.specs.Datagram.{ReadOut, read_at, end_of, number_of_end, values_of_end}
+use Rattle.block.specs.Refusals.{number_of_answer, values_of_count}
 
 -- ---- "15 | block or lent memory not well formed, or a size outside the limits"
 
@@ -33,7 +32,7 @@ pub record InputFits (k : Kcp) (rcv : Lists) (acks waiting : List ℕ) (snd : Li
 
 -- all as it was, and no push skipped
 abbrev pub unread : Kcp → Lists → List ℕ → Store → Refusal → ReadOut
-unread k rcv acks snd why = record { block = k; answer = Refused why; skipped = 0; rcv = rcv; acks = acks; snd = snd }
+unread k rcv acks snd why = record { block = k; answer = Err why; skipped = 0; rcv = rcv; acks = acks; snd = snd }
 
 module _ (k : Kcp) (rcv : Lists) (acks waiting : List ℕ) (snd : Lists) (s : List ℕ) where
   -- "11 | input over 1,500 bytes", "1 | input under 24 bytes", which carries the size
@@ -59,7 +58,7 @@ module _ (k : Kcp) (rcv : Lists) (acks waiting : List ℕ) (snd : Lists) (s : Li
 
   pub record Inputs (o : ReadOut) : Type 0 where
     pub is : o ≡ input_of
-    pub refusal : number_of_bytes o.answer ≡ input_number
-    pub values : values_of_bytes o.answer ≡ input_values
+    pub refusal : number_of_answer o.answer ≡ input_number
+    pub values : values_of_count o.answer ≡ input_values
     -- "the number of skipped pushes (0 to 62)"
     pub few : o.skipped ≤ 62

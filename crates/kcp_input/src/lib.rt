@@ -1,17 +1,19 @@
 // The public call input: it tests the memory of both sides and the ack memory, and then reads one datagram or changes nothing.
+// The lists are handed one by one, as C hands them, each shared or unique as the call needs it: one struct of all six would ask callers for unique access
+// to those that are only read.
 #![tactic(auto)]
 
 ghost use Rattle.std.specs.Prelude.{◌≡◌, true};
 ghost use Rattle.ring.specs.Lists.{lists};
 ghost use Rattle.snd_ring.specs.Store.{store_of};
-ghost use Rattle.block.specs.declared.refusal.Bytes.TheVariants.{Refused as Unread};
 ghost use Rattle.kcp_input.specs.Input.{input_fits, InputFits, Inputs};
 
 use block::Kcp;
-use block::refusal::{Bytes, Refusal};
+use block::refusal::Refusal;
 use input::Outcome;
 
 // Whether the block and all that input is lent are well formed.
+#[tactic(auto, unfolding(crate::specs::Input::input_fits))]
 fn fits(
     block: Kcp,
     rcv_records: &[u32],
@@ -24,25 +26,19 @@ fn fits(
     ensures value { result ≡ input_fits block (lists rcv_records.now rcv_room.now) acks.now waiting.now (lists snd_records.now snd_room.now) }
     ensures input_fits { result ≡ true → InputFits block (lists rcv_records.now rcv_room.now) acks.now waiting.now (lists snd_records.now snd_room.now) }
 {
-    if !block.own_numbers() {
-        return false;
-    }
-    if !receive::lent_fits(block.receiver, rcv_records, rcv_room) {
-        return false;
-    }
-    if !transmit::lent_fits(block.sender, snd_records, snd_room) {
-        return false;
-    }
-    block.acklist.lent_fits(acks, waiting)
+    block.own_numbers()
+        && receive::lent_fits(block.receiver, rcv_records, rcv_room)
+        && transmit::lent_fits(block.sender, snd_records, snd_room)
+        && block.acklist.lent_fits(acks, waiting)
 }
 
 // An input that was refused before any segment was read: all as it was, and none skipped.
 fn unread(block: Kcp, why: Refusal) -> Outcome
-    ensures { result ≡ record { block = block; answer = Unread why; skipped = 0 } }
+    ensures { result ≡ record { block = block; answer = Err why; skipped = 0 } }
 {
     Outcome {
-        block: block,
-        answer: Bytes::Refused { why: why },
+        block,
+        answer: Err(why),
         skipped: 0,
     }
 }

@@ -6,20 +6,18 @@
 ghost use Rattle.std.specs.Prelude.{◌≡◌};
 ghost use Rattle.serial.specs.Branch.{pick};
 ghost use Rattle.ring.specs.Lists.{lists};
-ghost use Rattle.receive.specs.declared.Length.TheVariants.{Refused};
 ghost use Rattle.receive.specs.Fits.{receive_fits};
 ghost use Rattle.kcp_receive.specs.Calls.{bad_pool, Promised, move_buf_of, Peeked, Receives, set_wndsize_of, wndsize_number};
 
 use block::Kcp;
-use block::refusal::{Answer, Refusal};
+use block::refusal::Refusal;
 use block::set::Set;
-use receive::Length;
 
 // The block after recv, and its answer.
 #[derive(Clone, Copy)]
 pub struct Received {
     pub block: Kcp,
-    pub answer: Length,
+    pub answer: Result<usize, Refusal>,
 }
 
 // Refused by 15: all as it was.
@@ -27,10 +25,8 @@ fn bad_pool(block: Kcp) -> Set
     ensures { result ≡ bad_pool block }
 {
     Set {
-        block: block,
-        answer: Answer::Refused {
-            why: Refusal::BadPool,
-        },
+        block,
+        answer: Err(Refusal::BadPool),
     }
 }
 
@@ -44,24 +40,17 @@ pub fn move_buf(block: Kcp, records: &[u32], room: &[u8]) -> Set
     }
     let receiver = receive::move_buf(block.receiver, records);
     Set {
-        block: block.with_receiver(receiver),
-        answer: Answer::Done,
+        block: Kcp { receiver, ..block },
+        answer: Ok(()),
     }
 }
 
-// A refusal of peeksize or recv.
-fn no_length(why: Refusal) -> Length
-    ensures { result ≡ Refused why }
-{
-    Length::Refused { why: why }
-}
-
 // The length of the message at the front of the queue. Refused by 15, 5 or 6.
-pub fn peeksize(block: Kcp, records: &[u32], room: &[u8]) -> Length
+pub fn peeksize(block: Kcp, records: &[u32], room: &[u8]) -> Result<usize, Refusal>
     ensures { Peeked block (lists records.now room.now) result }
 {
     if !receive::fits(block.own_numbers(), block.receiver, records, room) {
-        return no_length(Refusal::BadPool);
+        return Err(Refusal::BadPool);
     }
     receive::peeksize(block.receiver, records)
 }
@@ -73,25 +62,26 @@ pub fn recv(block: Kcp, records: &[u32], room: &[u8], buf: &mut [u8]) -> Receive
 {
     if !receive::fits(block.own_numbers(), block.receiver, records, room) {
         return Received {
-            block: block,
-            answer: no_length(Refusal::BadPool),
+            block,
+            answer: Err(Refusal::BadPool),
         };
     }
     let before = block.receiver;
     let out = receive::recv(before, records, room, buf);
     let answer = out.answer;
-    let Length::Is { length } = answer else {
-        return Received {
-            block: block,
-            answer: answer,
-        };
+    let Ok(length) = answer else {
+        return Received { block, answer };
     };
     let after = out.receiver;
     let ring = after.ring;
     let probe = receive::recovered(block.probe, before, ring.queued);
     Received {
-        block: block.with_receiver(after).with_probe(probe),
-        answer: Length::Is { length: length },
+        block: Kcp {
+            receiver: after,
+            probe,
+            ..block
+        },
+        answer: Ok(length),
     }
 }
 

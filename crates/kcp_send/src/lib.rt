@@ -6,13 +6,13 @@ ghost use Rattle.snd_ring.specs.Store.{store_of};
 ghost use Rattle.kcp_send.specs.Send.{Sends};
 
 use block::Kcp;
-use block::refusal::{Bytes, Refusal};
+use block::refusal::Refusal;
 
 // The block after a send, and its answer.
 #[derive(Clone, Copy)]
 pub struct Sent {
     pub block: Kcp,
-    pub answer: Bytes,
+    pub answer: Result<usize, Refusal>,
 }
 
 // Queues the bytes, and answers how many. Refused by 15, which leaves all, by 8, which leaves what joined the last segment of a stream, or by
@@ -23,10 +23,8 @@ pub fn send(block: Kcp, records: &mut [u32], room: &mut [u8], bytes: &[u8]) -> S
 {
     if !transmit::fits(block.own_numbers(), block.sender, records, room) {
         return Sent {
-            block: block,
-            answer: Bytes::Refused {
-                why: Refusal::BadPool,
-            },
+            block,
+            answer: Err(Refusal::BadPool),
         };
     }
     let settings = block.settings;
@@ -38,9 +36,11 @@ pub fn send(block: Kcp, records: &mut [u32], room: &mut [u8], bytes: &[u8]) -> S
         room,
         bytes,
     );
-    let answer = out.answer;
     Sent {
-        block: block.with_sender(out.sender),
-        answer: answer,
+        block: Kcp {
+            sender: out.sender,
+            ..block
+        },
+        answer: out.answer,
     }
 }

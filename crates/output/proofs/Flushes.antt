@@ -1,4 +1,5 @@
 -- A flush: 13 is decided by its sizes, and what it leaves is what the rules say. Assumes nothing.
+use Rattle.std.specs.Prelude.{Ok}
 use Prim.Native.Nat.{ℕ, ◌+◌, ◌≤◌, ◌<◌, ◌^◌}
 use native.Mathlib.Omega.{arith}
 use mathlib.Core.Path.{◌≡◌, refl, sym, ap, ◌∙◌}
@@ -13,7 +14,6 @@ use Rattle.ring.specs.Records.{put}
 use Rattle.snd_ring.specs.Store.{Store, Sound}
 use Rattle.block.specs.declared.Kcp.{Kcp}
 use Rattle.block.specs.declared.sender.Sender.{Sender}
-use Rattle.block.specs.declared.refusal.Answer.TheVariants.{Done}
 use Rattle.block.specs.declared.refusal.Refusal.TheVariants.{OutTooSmall}
 use Rattle.flushing.specs.declared.due.Tally.{Tally}
 use Rattle.flushing.specs.Pack.{flat, sum_of, pack_all_sizes}
@@ -103,7 +103,7 @@ module _ (k b : Kcp) (m : Store) (acks waiting out lengths : List ℕ) (o : Soun
     -- s, t and so on are what the writing left, and blk the block after it
     pub flush-done : {s : Sender} {t : Tally} {st : Store} {to ls : List ℕ} → ◌≡◌ {A = Rear} (record { sender = s; tally = t; store = st; out = to; lengths = ls }) (written_at b m acks waiting out lengths)
         → {blk : Kcp} → blk ≡ settled_by b s t
-        → ◌≡◌ {A = FlushOut} (record { out = record { block = blk; answer = Done; datagrams = p.count; written = writing waiting to ls }; store = st }) (flush_at k b m acks w)
+        → ◌≡◌ {A = FlushOut} (record { out = record { block = blk; answer = Ok tt; datagrams = p.count; written = writing waiting to ls }; store = st }) (flush_at k b m acks w)
     unfolding flush_at
     flush-done {s} {t} {st} {to} {ls} x {blk} y =
         let bs : to ≡ put out 0 (flat datagrams) = ap (λ (z : Rear). z.out) x ∙ ap (put out 0) (sym (bytes-found b m acks waiting o)) in
@@ -116,7 +116,7 @@ module _ (k b : Kcp) (m : Store) (acks waiting out lengths : List ℕ) (o : Soun
         record {
           out = record {
             block = after_flush b (moved_at b m).sender.ring (flushed (outgoing b m acks waiting)).after;
-            answer = Done;
+            answer = Ok tt;
             datagrams = length datagrams;
             written = writing wa (put out 0 (flat datagrams)) (put lengths 0 (map length datagrams));
           };
@@ -127,5 +127,5 @@ module _ (k b : Kcp) (m : Store) (acks waiting out lengths : List ℕ) (o : Soun
 
     -- blk is the block after a flush of which nothing goes out
     pub flush-idle : p.start ≡ 0 → b.sender.snd_nxt < 2 ^ 32 → {blk : Kcp} → blk ≡ settled_by b b.sender (uncounted b)
-        → ◌≡◌ {A = FlushOut} (record { out = record { block = blk; answer = Done; datagrams = 0; written = w }; store = m }) (flush_at k b m acks w)
+        → ◌≡◌ {A = FlushOut} (record { out = record { block = blk; answer = Ok tt; datagrams = 0; written = w }; store = m }) (flush_at k b m acks w)
     flush-idle z next y = rw (← no_datagram z) (flush-done (idle-written b m acks waiting o next (none z) out lengths) y)

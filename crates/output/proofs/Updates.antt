@@ -1,4 +1,5 @@
 -- `turn`, by whether a flush is due, and `check`. Assumes nothing.
+use Rattle.std.specs.Prelude.{Ok}
 use Prim.Native.Nat.{ℕ, ◌-◌, ◌^◌}
 use mathlib.Core.Path.{◌≡◌, refl, sym, ap, ◌∙◌}
 use mathlib.Core.Bool.{true, false, not}
@@ -9,7 +10,6 @@ use Rattle.ring.specs.Lists.{lists}
 use Rattle.snd_ring.specs.Store.{Store, store_of, Sound}
 use Rattle.block.specs.declared.Kcp.{Kcp}
 use Rattle.block.specs.declared.clock.Clock.{Clock}
-use Rattle.block.specs.declared.refusal.Answer.TheVariants.{Done}
 use Rattle.block.specs.Parts.{with_clock}
 use Rattle.block.specs.WellFormed.{OwnNumbers}
 use Rattle.sending.specs.Rules.{Segment}
@@ -27,7 +27,7 @@ pub own_then : (k : Kcp) (c : Clock) → OwnNumbers k → OwnNumbers (with_clock
 own_then k c o = record { settings = o.settings; probe = o.probe; receiver = o.receiver; sender = o.sender; acklist = o.acklist }
 
 module _ (t : Tick) (k : Kcp) (m : Store) (acks : List ℕ) (w : Writing) {b : Kcp} (d : b ≡ with_clock k t.clock) where
-  pub turn-waits : not t.flushes ≡ true → ◌≡◌ {A = FlushOut} (record { out = record { block = b; answer = Done; datagrams = 0; written = w }; store = m }) (turn_at t k m acks w)
+  pub turn-waits : not t.flushes ≡ true → ◌≡◌ {A = FlushOut} (record { out = record { block = b; answer = Ok tt; datagrams = 0; written = w }; store = m }) (turn_at t k m acks w)
   unfolding turn_at
   turn-waits h = rw d (sym (pick-false _ _ (not-true t.flushes h)))
 

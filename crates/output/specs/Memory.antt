@@ -1,7 +1,7 @@
 -- "As `flush`, `flush_ack`, `update` and `check`, with datagrams put end to end in lent bytes and their lengths in a lent list; .. lent bytes and lengths
 -- past those written stay": what they leave of the block and of every lent number and byte. The datagrams of a flush are those of the rules
 -- (flushing/specs/Rules), asked of what is seen in the memory; the send ring afterwards is that of flight/specs/Memory. Assumes nothing.
-use Rattle.std.specs.Prelude.{ℕ, ◌+◌, ◌≤◌, ◌<◌, ◌^◌, false, List, [], ◌++◌, map, length, take}
+use Rattle.std.specs.Prelude.{ℕ, ◌+◌, ◌≤◌, ◌<◌, ◌^◌, false, List, [], ◌++◌, map, length, take, Result, Ok, Err}
 use Rattle.serial.specs.Branch.{pick}
 use Rattle.serial.specs.Wrap.{add32, sub32}
 use Rattle.ring.specs.Records.{put}
@@ -9,8 +9,6 @@ use Rattle.snd_ring.specs.declared.SndRing.{SndRing}
 use Rattle.snd_ring.specs.Store.{Store}
 use Rattle.block.specs.declared.Kcp.{Kcp}
 use Rattle.block.specs.declared.sender.Sender.{Sender}
-use Rattle.block.specs.declared.refusal.Answer.{Answer}
-use Rattle.block.specs.declared.refusal.Answer.TheVariants.{Done, Refused}
 use Rattle.block.specs.declared.refusal.Refusal.{Refusal}
 use Rattle.block.specs.declared.refusal.Refusal.TheVariants.{OutTooSmall}
 use Rattle.block.specs.Parts.{with_clock, with_congestion, with_probe, with_ack_list, with_sender}
@@ -59,17 +57,17 @@ told_of k = record { conv = k.settings.conv; wnd = wnd_unused k.receiver.rcv_wnd
 
 pub record Out : Type 0 where
   pub block : Kcp
-  pub answer : Answer
+  pub answer : Result Unit Refusal
   pub datagrams : ℕ
   pub written : Writing
 
 -- "all as it was"
 abbrev pub unsent : Kcp → Writing → Refusal → Out
-unsent k w why = record { block = k; answer = Refused why; datagrams = 0; written = w }
+unsent k w why = record { block = k; answer = Err why; datagrams = 0; written = w }
 
 -- done: these datagrams went out, and these bytes wait
 abbrev pub sent_off : Kcp → List (List ℕ) × List ℕ → Writing → Out
-sent_off k packed w = record { block = k; answer = Done; datagrams = length packed.0; written = put_out packed w }
+sent_off k packed w = record { block = k; answer = Ok tt; datagrams = length packed.0; written = put_out packed w }
 
 -- no ack is left, and so many bytes wait
 abbrev pub acked : Kcp → ℕ → Kcp
@@ -203,13 +201,13 @@ unfoldable pub update_at : ℕ → Kcp → Store → List ℕ → Writing → Fl
 update_at current k m acks w =
     let t = ticked k.clock current in
     let b = with_clock k t.clock in
-    pick t.flushes (flush_at k b m acks w) (record { out = record { block = b; answer = Done; datagrams = 0; written = w }; store = m })
+    pick t.flushes (flush_at k b m acks w) (record { out = record { block = b; answer = Ok tt; datagrams = 0; written = w }; store = m })
 
 -- the same with a clock that was set before: a flush is a turn that runs with the clock as it is
 unfoldable pub turn_at : Tick → Kcp → Store → List ℕ → Writing → FlushOut
 turn_at t k m acks w =
     let b = with_clock k t.clock in
-    pick t.flushes (flush_at k b m acks w) (record { out = record { block = b; answer = Done; datagrams = 0; written = w }; store = m })
+    pick t.flushes (flush_at k b m acks w) (record { out = record { block = b; answer = Ok tt; datagrams = 0; written = w }; store = m })
 
 -- ---- `check`
 

@@ -1,9 +1,9 @@
-// The way out in lent memory: flush_ack, flush and update, which are one turn, and check. Each requires that the memory is well formed; the public calls test that and then act.
+// The way out in lent memory: flush_ack, flush and update, which are one turn, and check. Each requires that the memory is well formed; the public calls test that and then act. The lists
+// are handed one by one, as kcp_flush has them.
 #![tactic(auto)]
 
-ghost use Rattle.std.specs.Prelude.{◌≡◌, List, ℕ, ◌*◌, ◌≤◌, ◌<◌, ◌^◌, length};
+ghost use Rattle.std.specs.Prelude.{◌≡◌, false, List, ℕ, ◌*◌, ◌≤◌, ◌<◌, ◌^◌, length};
 ghost use Rattle.block.specs.WellFormed.{SettingsFit, ProbeFits, AckListFits, OwnNumbers};
-ghost use Rattle.block.specs.declared.refusal.Answer.TheVariants.{Done as Finished, Refused as Unsent};
 ghost use Rattle.block.specs.declared.refusal.Refusal.TheVariants.{OutTooSmall};
 ghost use Rattle.ring.specs.Lists.{lists};
 ghost use Rattle.snd_ring.specs.Store.{store_of, Sound};
@@ -15,14 +15,13 @@ ghost use Rattle.output.specs.Memory.{told_of, plan_of, flush_ack_at, flush_at, 
 use block::Kcp;
 use block::acklist::AckList;
 use block::probe::Probe;
-use block::refusal::{Answer, Refusal};
+use block::refusal::Refusal;
 use block::sender::Sender;
 use flushing::clock::{Tick, tm_flush, wait_of};
 use flushing::due::{Pace, Tally, pace_of};
 use flushing::headers::Told;
 use flushing::probing::probe_wnd_size;
 use flushing::windows::{congestion_after, leaving, window_of, wnd_unused};
-use packing::flush_ack::Packed;
 use packing::front::{front_put, front_sized};
 use packing::packer::Packer;
 
@@ -71,23 +70,22 @@ fn planned(block: Kcp) -> Plan
     }
 }
 
-// What a call leaves beside the lent memory: the block, the answer, and how many datagrams went out.
+// What a call leaves beside the lent memory: the block, the answer, and how many datagrams went out; that count stands beside the answer and not in it,
+// since `Ruled` (kcp_flush/specs/Ruled) tells it of a refused call too.
 #[derive(Clone, Copy)]
 pub struct Out {
     pub block: Kcp,
-    pub answer: Answer,
+    pub answer: Result<(), Refusal>,
     pub datagrams: usize,
 }
 
 // A call refused by 13: all as it was.
 fn too_small(block: Kcp) -> Out
-    ensures { result ≡ record { block = block; answer = Unsent OutTooSmall; datagrams = 0 } }
+    ensures { result ≡ record { block = block; answer = Err OutTooSmall; datagrams = 0 } }
 {
     Out {
-        block: block,
-        answer: Answer::Refused {
-            why: Refusal::OutTooSmall,
-        },
+        block,
+        answer: Err(Refusal::OutTooSmall),
         datagrams: 0,
     }
 }
@@ -119,21 +117,20 @@ pub fn flush_ack(
         out,
         lengths,
     );
-    let Packed::Sent {
-        datagrams,
-        waiting: left,
-    } = packed
-    else {
+    let Ok(sent) = packed else {
         return too_small(block);
     };
     let rest = AckList {
         acks: 0,
-        waiting: left as u32,
+        waiting: sent.waiting as u32,
     };
     Out {
-        block: block.with_acklist(rest),
-        answer: Answer::Done,
-        datagrams: datagrams,
+        block: Kcp {
+            acklist: rest,
+            ..block
+        },
+        answer: Ok(()),
+        datagrams: sent.datagrams,
     }
 }
 
@@ -158,10 +155,8 @@ fn flush_sizes(block: Kcp, plan: Plan, records: &[u32]) -> Packer
         acklist.acks as usize,
         probe.bits,
     );
-    if ring.reach == 0 {
-        if plan.leavers == 0 {
-            return front.close();
-        }
+    if ring.reach == 0 && plan.leavers == 0 {
+        return front.close();
     }
     let flying = due::due_sizes(ring, records, plan.pace, mtu, front);
     let all = due::fresh_sizes(ring, records, plan.leavers, mtu, flying);
@@ -175,9 +170,7 @@ fn settled(block: Kcp, plan: Plan, sender: Sender, tally: Tally) -> Kcp
 {
     let settings = block.settings;
     let pace = plan.pace;
-    let probe = plan.probe;
-    let ring = sender.ring;
-    let inflight = serial::sub(sender.snd_nxt, sender.snd_una);
+    let inflight = sender.snd_nxt.wrapping_sub(sender.snd_una);
     let congestion = congestion_after(
         block.congestion,
         settings.mss,
@@ -187,27 +180,35 @@ fn settled(block: Kcp, plan: Plan, sender: Sender, tally: Tally) -> Kcp
         tally.change,
         tally.lost,
     );
-    let used_up = Probe {
-        bits: 0,
-        ts_probe: probe.ts_probe,
-        probe_wait: probe.probe_wait,
-    };
-    let none = AckList {
-        acks: 0,
-        waiting: 0,
-    };
-    let after = Sender {
-        snd_una: sender.snd_una,
-        snd_nxt: sender.snd_nxt,
-        ring: ring,
-        xmit: tally.xmit,
-        dead: tally.dead,
-    };
-    block
-        .with_congestion(congestion)
-        .with_probe(used_up)
-        .with_acklist(none)
-        .with_sender(after)
+    Kcp {
+        congestion,
+        probe: Probe {
+            bits: 0,
+            ..plan.probe
+        },
+        acklist: AckList {
+            acks: 0,
+            waiting: 0,
+        },
+        sender: Sender {
+            xmit: tally.xmit,
+            dead: tally.dead,
+            ..sender
+        },
+        ..block
+    }
+}
+
+// What is counted before any segment of a flush.
+fn uncounted(sender: Sender) -> Tally
+    ensures { result ≡ record { xmit = sender.xmit; dead = sender.dead; lost = false; change = false } }
+{
+    Tally {
+        xmit: sender.xmit,
+        dead: sender.dead,
+        lost: false,
+        change: false,
+    }
 }
 
 // What the segments of a flush leave beside the lent memory: the sending side once they have left the queue, and what was counted.
@@ -246,12 +247,7 @@ fn rear_put(
         clock.current,
         estimator.rto,
     );
-    let none = Tally {
-        xmit: before.xmit,
-        dead: before.dead,
-        lost: false,
-        change: false,
-    };
+    let none = uncounted(before);
     let written = due::due_write(
         sender.ring,
         records,
@@ -312,18 +308,13 @@ fn flush_write(
 // A flush of which nothing goes out: nothing leaves the queue, and no memory changes.
 fn idle(block: Kcp, plan: Plan) -> Out
     requires { plan ≡ plan_of block }
-    ensures { result ≡ record { block = settled_by block block.sender (uncounted block); answer = Finished; datagrams = 0 } }
+    ensures { result ≡ record { block = settled_by block block.sender (uncounted block); answer = Ok tt; datagrams = 0 } }
 {
     let sender = block.sender;
-    let none = Tally {
-        xmit: sender.xmit,
-        dead: sender.dead,
-        lost: false,
-        change: false,
-    };
+    let none = uncounted(sender);
     Out {
         block: settled(block, plan, sender, none),
-        answer: Answer::Done,
+        answer: Ok(()),
         datagrams: 0,
     }
 }
@@ -352,10 +343,7 @@ fn flush(
 {
     let plan = planned(block);
     let sizes = flush_sizes(block, plan, records);
-    if out.len() < sizes.start {
-        return too_small(before);
-    }
-    if lengths.len() < sizes.count {
+    if out.len() < sizes.start || lengths.len() < sizes.count {
         return too_small(before);
     }
     if sizes.start == 0 {
@@ -364,7 +352,7 @@ fn flush(
     let flown = flush_write(block, plan, records, room, acks, waiting, out, lengths);
     Out {
         block: settled(block, plan, flown.sender, flown.tally),
-        answer: Answer::Done,
+        answer: Ok(()),
         datagrams: sizes.count,
     }
 }
@@ -390,12 +378,14 @@ pub fn turn(
     }
         ≡ turn_at tick block (store_of 8 (lists records.old room.now)) acks.now (writing waiting.now out.old lengths.old) }
 {
-    let clock = tick.clock;
-    let now = block.with_clock(clock);
+    let now = Kcp {
+        clock: tick.clock,
+        ..block
+    };
     if !tick.flushes {
         return Out {
             block: now,
-            answer: Answer::Done,
+            answer: Ok(()),
             datagrams: 0,
         };
     }

@@ -8,6 +8,7 @@ use mathlib.Core.List.{List, [], ◌∷◌, ◌++◌, map, append_assoc}
 use lib.ListN.{length, take, drop, replicate, length-append, length-map}
 use lib.Seq.{take_at, drop_at, length-take-le}
 use lib.Dec.{ltb}
+use Rattle.std.proofs.Common.{Ok, Err}
 use borrow.Author.Tests.{lt-ltb, le-ltb}
 use Rattle.serial.specs.Branch.{pick}
 use Rattle.ring.specs.Records.{put}
@@ -16,10 +17,10 @@ use Rattle.flushing.specs.Pack.{flat, sum_of, datagram_size, goes_size, stays_si
 use Rattle.flushing.specs.Rules.{Outgoing, told_by, flushed_ack, exceeds}
 use Rattle.flushing.proofs.Packing.{length-flat, pack-sizes, pack-rest, joined, rest-most}
 use Rattle.packing.specs.declared.packer.Packer.{Packer}
-use Rattle.packing.specs.declared.flush_ack.Packed.TheVariants.{Sent, OutTooSmall}
+use Rattle.block.specs.declared.refusal.Refusal.TheVariants.{OutTooSmall}
 use Rattle.packing.specs.Packer.{holding, sized}
 use Rattle.packing.specs.Acks.{acks_from, acks_of, ack_bytes}
-use Rattle.packing.specs.FlushAck.{Writing, writing, room_of, put_out, flush_ack_at}
+use Rattle.packing.specs.FlushAck.{Writing, writing, sent, room_of, put_out, flush_ack_at}
 use Rattle.packing.proofs.Laying.{put_none, put-own, put-start, put_next}
 use Rattle.packing.proofs.Turns.{sized-sum}
 use Rattle.packing.proofs.AckBytes.{each_alike, total_alike, ack-sizes, acks-length, acks-split}
@@ -156,16 +157,16 @@ module _ (t : Told) (acks : List ℕ) (mtu n held : ℕ) where
   -- ---- the two tests
 
   module _ (m : Writing) (p : Packer) (f : Found (take held m.waiting) p) where
-    pub no_bytes : length m.out < p.start → (OutTooSmall, m) ≡ flush_ack_at t mtu acks n held m
+    pub no_bytes : length m.out < p.start → (Err OutTooSmall, m) ≡ flush_ack_at t mtu acks n held m
     unfolding flush_ack_at exceeds pick
     no_bytes h = rw (← f.start, lt-ltb (length m.out) p.start h)
 
-    pub no_lengths : p.start ≤ length m.out → length m.lengths < p.count → (OutTooSmall, m) ≡ flush_ack_at t mtu acks n held m
+    pub no_lengths : p.start ≤ length m.out → length m.lengths < p.count → (Err OutTooSmall, m) ≡ flush_ack_at t mtu acks n held m
     unfolding flush_ack_at exceeds pick
     no_lengths g h = rw (← f.start, ← f.count, le-ltb (length m.out) p.start g, lt-ltb (length m.lengths) p.count h)
 
     pub fits : p.start ≤ length m.out → p.count ≤ length m.lengths → (k : Writing) → k ≡ put_out (packed (take held m.waiting)) m
-        → (Sent p.count p.used, k) ≡ flush_ack_at t mtu acks n held m
+        → (Ok (sent p.count p.used), k) ≡ flush_ack_at t mtu acks n held m
     unfolding flush_ack_at exceeds pick
     fits g h k e =
         let c : length (packed (take held m.waiting)).0 ≡ p.count = sym (length-map (packed (take held m.waiting)).0 length) ∙ sym f.count in
@@ -181,6 +182,6 @@ put_view l x = ap (take (length x)) (put-start l x) ∙ take_at x (drop (length 
 pub by-rule : (o : Outgoing) (acks : List ℕ) (n held : ℕ) (m : Writing) → o.acks ≡ acks_of acks n → o.waiting ≡ take held m.waiting
     → let after = flushed_ack o in
     flush_ack_at (told_by o) o.settings.mtu acks n held m
-    ≡ pick (exceeds (room_of m) (map length after.datagrams)) (OutTooSmall, m) (Sent (length after.datagrams) (length after.after.waiting), put_out (after.datagrams, after.after.waiting) m)
+    ≡ pick (exceeds (room_of m) (map length after.datagrams)) (Err OutTooSmall, m) (Ok (sent (length after.datagrams) (length after.after.waiting)), put_out (after.datagrams, after.after.waiting) m)
 unfolding flush_ack_at flushed_ack
 by-rule o acks n held m a w = rw (a, w)

@@ -1,5 +1,5 @@
 -- flush_ack in lent memory, a probe, and the front of a flush on closed cases. Assumes nothing.
-use Rattle.std.specs.Prelude.{ℕ, ◌-◌, ◌≡◌, refl, List, [], ◌∷◌, ◌++◌, replicate}
+use Rattle.std.specs.Prelude.{ℕ, ◌-◌, ◌≡◌, refl, List, [], ◌∷◌, ◌++◌, replicate, Ok, Err}
 use Rattle.serial.specs.Branch.{pick}
 use Rattle.ring.specs.Records.{put}
 use Rattle.wire.specs.Header.{header_bytes}
@@ -7,9 +7,9 @@ use Rattle.flushing.specs.declared.headers.Told.{Told}
 use Rattle.flushing.specs.Pack.{flat, sum_of, datagram_of, goes, stays, pack}
 use Rattle.flushing.specs.Pieces.{bare_head, last_ack_of}
 use Rattle.flushing.specs.Rules.{exceeds}
-use Rattle.packing.specs.declared.flush_ack.Packed.TheVariants.{Sent, OutTooSmall}
+use Rattle.block.specs.declared.refusal.Refusal.TheVariants.{OutTooSmall}
 use Rattle.packing.specs.Acks.{acks_from, acks_of, probe_head}
-use Rattle.packing.specs.FlushAck.{writing, flush_ack_at}
+use Rattle.packing.specs.FlushAck.{writing, sent, flush_ack_at}
 use Rattle.packing.specs.Front.{front_pieces, front_sizes}
 
 told : Told
@@ -31,25 +31,25 @@ waits n = replicate n 1 ++ replicate (52 - n) 0
 
 -- 24 bytes wait at mtu 50: the first ack joins them, and the second sends them off and stays; what lies past what is written stays
 sends : flush_ack_at told 50 acks 2 24 (writing (waits 24) (replicate 50 5) (6 ∷ 6 ∷ []))
-    ≡ (Sent 1 24, writing (second ++ replicate 28 0) (replicate 24 1 ++ first ++ replicate 2 5) (48 ∷ 6 ∷ []))
+    ≡ (Ok (sent 1 24), writing (second ++ replicate 28 0) (replicate 24 1 ++ first ++ replicate 2 5) (48 ∷ 6 ∷ []))
 unfolding told acks first second waits flush_ack_at acks_from header_bytes exceeds pack goes stays datagram_of flat sum_of pick put
 sends = refl
 
 -- no ack: nothing goes out, and nothing is asked of what is lent
-none : flush_ack_at told 50 acks 0 24 (writing (waits 24) [] []) ≡ (Sent 0 24, writing (waits 24) [] [])
+none : flush_ack_at told 50 acks 0 24 (writing (waits 24) [] []) ≡ (Ok (sent 0 24), writing (waits 24) [] [])
 unfolding told acks waits flush_ack_at acks_from exceeds pack flat sum_of pick put
 none = refl
 
 -- exactly full: 26 bytes and an ack are 50, and stay; one byte more sends 27 off
-full : (flush_ack_at told 50 acks 1 26 (writing (waits 26) [] []) ≡ (Sent 0 50, writing (replicate 26 1 ++ first ++ replicate 2 0) [] []))
+full : (flush_ack_at told 50 acks 1 26 (writing (waits 26) [] []) ≡ (Ok (sent 0 50), writing (replicate 26 1 ++ first ++ replicate 2 0) [] []))
     × (flush_ack_at told 50 acks 1 27 (writing (waits 27) (replicate 27 5) (6 ∷ []))
-    ≡ (Sent 1 24, writing (first ++ replicate 3 1 ++ replicate 25 0) (replicate 27 1) (27 ∷ [])))
+    ≡ (Ok (sent 1 24), writing (first ++ replicate 3 1 ++ replicate 25 0) (replicate 27 1) (27 ∷ [])))
 unfolding told acks first waits flush_ack_at acks_from header_bytes exceeds pack goes stays datagram_of flat sum_of pick put
 full = (refl, refl)
 
 -- 13: 48 bytes into 47, and a datagram into no length
-refuses : (flush_ack_at told 50 acks 2 24 (writing (waits 24) (replicate 47 5) (6 ∷ [])) ≡ (OutTooSmall, writing (waits 24) (replicate 47 5) (6 ∷ [])))
-    × (flush_ack_at told 50 acks 2 24 (writing (waits 24) (replicate 48 5) []) ≡ (OutTooSmall, writing (waits 24) (replicate 48 5) []))
+refuses : (flush_ack_at told 50 acks 2 24 (writing (waits 24) (replicate 47 5) (6 ∷ [])) ≡ (Err OutTooSmall, writing (waits 24) (replicate 47 5) (6 ∷ [])))
+    × (flush_ack_at told 50 acks 2 24 (writing (waits 24) (replicate 48 5) []) ≡ (Err OutTooSmall, writing (waits 24) (replicate 48 5) []))
 unfolding told acks waits flush_ack_at acks_from header_bytes exceeds pack goes stays datagram_of flat sum_of pick put
 refuses = (refl, refl)
 

@@ -19,15 +19,13 @@ pub fn acks_sized(p: Packer, mtu: usize, n: usize) -> Packer
     ensures { result ≡ sized mtu p (replicate n 24) }
 {
     let mut q = p;
-    let mut i = 0;
-    while i < n {
+    for _ in 0..n {
         q = q.size(mtu, wire::OVERHEAD);
-        i += 1;
     }
     q
 }
 
-// The same, and the lengths of the datagrams that go out.
+// The same, and the lengths of the datagrams that go out. A walk of its own: to pass the step to one walk would take more lines than this.
 pub fn acks_cut(p: Packer, mtu: usize, n: usize, lengths: &mut [u16]) -> Packer
     requires mtu_bound { mtu ≤ 1500 }
     requires n_bound { n ≤ 4096 }
@@ -38,10 +36,8 @@ pub fn acks_cut(p: Packer, mtu: usize, n: usize, lengths: &mut [u16]) -> Packer
     ensures lengths_after { lengths.new ≡ put lengths.old p.count (pack_sizes mtu p.used (replicate n 24)).0 }
 {
     let mut q = p;
-    let mut i = 0;
-    while i < n {
+    for _ in 0..n {
         q = q.cut(mtu, wire::OVERHEAD, lengths);
-        i += 1;
     }
     q
 }
@@ -53,13 +49,11 @@ pub fn put_acks(told: Told, acks: &[u32], from: usize, to: usize, dst: &mut [u8]
     requires from_in_bounds { at + 24 * (to - from) ≤ length dst.old }
     ensures { dst.new ≡ put dst.old at (flat (ack_bytes told (acks_from acks.now from (to - from)))) }
 {
-    let mut i = from;
     let mut end = at;
-    while i < to {
+    for i in from..to {
         let sn = ring::number_at(acks, 2, i, 0);
         let ts = ring::number_at(acks, 2, i, 1);
         put_header(told.bare_head(wire::ACK, sn, ts), dst, end);
         end += wire::OVERHEAD;
-        i += 1;
     }
 }

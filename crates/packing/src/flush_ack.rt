@@ -1,4 +1,6 @@
 // flush_ack in lent memory: the acks are packed behind the bytes that wait; full datagrams go out, and the last bytes stay waiting.
+// `held` stands beside `waiting`, which is written behind it, and `n` beside `acks`, whose memory is longer than the list: to cut the pairs to size would have
+// their count divided out again in each clause.
 ghost use Rattle.std.specs.Prelude.{◌≡◌, ◌*◌, ◌≤◌, length, replicate, take};
 ghost use Rattle.flushing.specs.Pack.{pack};
 ghost use Rattle.packing.specs.Packer.{holding, sized};
@@ -8,13 +10,14 @@ ghost use Rattle.packing.specs.FlushAck.{writing, put_out, flush_ack_at};
 use crate::acks::{acks_cut, acks_sized, put_acks};
 use crate::packer::Packer;
 use crate::puts::put_waiting;
+use block::refusal::Refusal;
 use flushing::headers::Told;
 
-// What flush_ack comes to: the datagrams that went out and the bytes that wait then, or refusal 13.
+// What flush_ack comes to: the datagrams that went out and the bytes that wait then.
 #[derive(Clone, Copy)]
-pub enum Packed {
-    Sent { datagrams: usize, waiting: usize },
-    OutTooSmall,
+pub struct Sent {
+    pub datagrams: usize,
+    pub waiting: usize,
 }
 
 // What n acks behind `held` waiting bytes come to.
@@ -72,7 +75,7 @@ pub fn flush_ack(
     held: usize,
     out: &mut [u8],
     lengths: &mut [u16],
-) -> Packed
+) -> Result<Sent, Refusal>
     requires mtu_bound { mtu ≤ 1500 }
     requires n_in_bounds { 2 * n ≤ length acks.now }
     requires n_bound { n ≤ 4096 }
@@ -82,15 +85,12 @@ pub fn flush_ack(
         ≡ flush_ack_at told mtu acks.now n held (writing waiting.old out.old lengths.old) }
 {
     let p = flush_ack_sizes(mtu, n, held);
-    if out.len() < p.start {
-        return Packed::OutTooSmall;
-    }
-    if lengths.len() < p.count {
-        return Packed::OutTooSmall;
+    if out.len() < p.start || lengths.len() < p.count {
+        return Err(Refusal::OutTooSmall);
     }
     flush_ack_write(told, mtu, acks, n, waiting, held, out, lengths, p);
-    Packed::Sent {
+    Ok(Sent {
         datagrams: p.count,
         waiting: p.used,
-    }
+    })
 }

@@ -25,15 +25,12 @@ impl Packer {
     }
 
     // Whether a datagram goes out before a piece of n bytes: some wait, and they and the piece exceed mtu.
+    #[tactic(auto, unfolding(crate::specs::Packer::departs))]
     fn departs(self, mtu: usize, n: usize) -> bool
         requires { self.used + n < 2 ^ 32 }
         ensures { result ≡ departs mtu self.used n }
     {
-        let used = self.used;
-        if used == 0 {
-            return false;
-        }
-        used + n > mtu
+        self.used > 0 && self.used + n > mtu
     }
 
     // A piece of n bytes, by its size alone.
@@ -42,20 +39,16 @@ impl Packer {
         requires count_bound { self.count < 2 ^ 63 }
         ensures { result ≡ sized mtu self (n ∷ []) }
     {
-        let start = self.start;
-        let used = self.used;
-        let count = self.count;
         if self.departs(mtu, n) {
             return Packer {
-                start: start + used,
+                start: self.start + self.used,
                 used: n,
-                count: count + 1,
+                count: self.count + 1,
             };
         }
         Packer {
-            start: start,
-            used: used + n,
-            count: count,
+            used: self.used + n,
+            ..self
         }
     }
 
@@ -67,10 +60,8 @@ impl Packer {
         ensures value { result ≡ sized mtu self (n ∷ []) }
         ensures lengths_after { lengths.new ≡ put lengths.old self.count (goes_size mtu self.used n) }
     {
-        let used = self.used;
-        let count = self.count;
         if self.departs(mtu, n) {
-            lengths[count] = used as u16;
+            lengths[self.count] = self.used as u16;
         }
         self.size(mtu, n)
     }
@@ -81,16 +72,13 @@ impl Packer {
         requires count_bound { self.count < 2 ^ 63 }
         ensures { result ≡ closed self }
     {
-        let start = self.start;
-        let used = self.used;
-        let count = self.count;
-        if used == 0 {
+        if self.used == 0 {
             return self;
         }
         Packer {
-            start: start + used,
+            start: self.start + self.used,
             used: 0,
-            count: count + 1,
+            count: self.count + 1,
         }
     }
 
@@ -102,12 +90,9 @@ impl Packer {
         ensures value { result ≡ closed self }
         ensures lengths_after { lengths.new ≡ put lengths.old self.count (datagram_size self.used) }
     {
-        let used = self.used;
-        let count = self.count;
-        if used == 0 {
-            return self;
+        if self.used > 0 {
+            lengths[self.count] = self.used as u16;
         }
-        lengths[count] = used as u16;
         self.close()
     }
 }

@@ -15,10 +15,7 @@ pub fn probe_sized(p: Packer, mtu: usize, on: bool) -> Packer
     requires count_bound { p.count < 2 ^ 32 }
     ensures { result ≡ sized mtu p (pick on (24 ∷ []) []) }
 {
-    if on {
-        return p.size(mtu, wire::OVERHEAD);
-    }
-    p
+    if on { p.size(mtu, wire::OVERHEAD) } else { p }
 }
 
 // The bytes of a probe: sn and ts of the last of n acks, else 0.

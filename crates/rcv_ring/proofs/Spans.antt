@@ -234,3 +234,5 @@ module _ (m : ℕ → ℕ) where
 
   pub leading_le : (d n : ℕ) → leading m d n ≤ n
   leading_le d n = by_less n (leading m d n) (λ h. absurd (let a = leading-held d n n h in omega arith)) (λ h. h)
+
+pub ruleset of_leading = (leading_more, leading-stops, leading_none)

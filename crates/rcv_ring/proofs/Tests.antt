@@ -4,9 +4,7 @@ use native.Mathlib.Omega.{arith}
 use mathlib.Core.Path.{◌≡◌, refl}
 use mathlib.Core.Bool.{Bool, true, false, ◌&&◌}
 use mathlib.Core.List.{List}
-use lib.Dec.{eqb}
-use borrow.Author.Tests.{eq-eqb, ne_eqb, eqb-true}
-use Rattle.ring.specs.Counting.{count}
+use borrow.Author.Tests.{eq-eqb, eqb-true}
 use Rattle.ring.proofs.Places.{by_less}
 use Rattle.ring.proofs.Counting.{count_under, under-count, count_all, all-count}
 use Rattle.rcv_ring.specs.declared.RcvRing.{RcvRing}
@@ -38,17 +36,3 @@ module _ (r : RcvRing) (l : List ℕ) where
         eq-eqb _ _ (under-count 96862208 l r.start 0 r.queued (λ i a b. let x = m.short i (omega arith) in omega arith)),
         eq-eqb _ _ (under-count 96862208 l r.start r.queued r.reach (λ i a b. let x = m.short i b in omega arith)),
       )
-
-  -- what the counts, taken one after the other, say of the test
-  module _ (n m : ℕ) (a : n ≡ count 65536 l r.start 0 r.queued) (b : m ≡ count 96862208 l r.start 0 r.queued) where
-    pub fit_low : (n ≡ r.queued → ⊥) → false ≡ marks_fit r l
-    unfolding marks_fit
-    fit_low h = rw (← a, ne_eqb n r.queued h)
-
-    pub fit-high : n ≡ r.queued → (m ≡ 0 → ⊥) → false ≡ marks_fit r l
-    unfolding marks_fit
-    fit-high e h = rw (← a, ← b, eq-eqb n r.queued e, ne_eqb m 0 h)
-
-    pub fit-rest : n ≡ r.queued → m ≡ 0 → (k : ℕ) → k ≡ count 96862208 l r.start r.queued r.reach → eqb k 0 ≡ marks_fit r l
-    unfolding marks_fit
-    fit-rest e f k g = rw (← a, ← b, ← g, eq-eqb n r.queued e, eq-eqb m 0 f)

@@ -5,15 +5,16 @@ use native.Mathlib.Nat.{add-zero, zero-add}
 use native.Mathlib.Numerals.{add-one}
 use mathlib.Core.Path.{◌≡◌, refl, sym, ap, ◌∙◌}
 use mathlib.Core.Bool.{not}
-use mathlib.Core.List.{List}
-use lib.ListN.{length, set, length-set}
+use mathlib.Core.List.{List, [], ◌∷◌, ◌++◌, append-nil}
+use lib.ListN.{length, set, length-set, take, drop, length-drop, replicate, length-replicate, take-append-drop}
 use lib.Dec.{leb, eqb}
 use borrow.Author.Tests.{le-leb, lt-leb, eq-eqb, ne_eqb}
-use lib.Seq.{get_or-set_same, get_or-set_other}
+use lib.Seq.{get_or-set_same, get_or-set_other, length-take-le}
 use Rattle.ring.specs.Lists.{Lists, lists}
 use Rattle.ring.specs.Places.{place}
-use Rattle.ring.specs.Records.{put_slot}
+use Rattle.ring.specs.Records.{put, put_slot}
 use Rattle.ring.specs.Counting.{word_at}
+use Rattle.ring.proofs.Rows.{put_one, put-put, put_over}
 use Rattle.ring.proofs.Places.{by_less, by_place, place-low, place_in, place-apart}
 use Rattle.rcv_ring.specs.declared.RcvRing.{RcvRing}
 use Rattle.rcv_ring.specs.Words.{mark_of, frg_of, word}
@@ -32,18 +33,26 @@ pub marked_is : (w : ℕ) → leb 65536 w ≡ not (eqb (mark_of w) 0)
 marked_is w =
     by_less w 65536 (λ h. rw (lt-leb 65536 w h, eq-eqb (mark_of w) 0 (omega arith))) (λ h. rw (le-leb 65536 w h, ne_eqb (mark_of w) 0 (λ z. omega arith)))
 
--- ---- `clear_run`: one place less
+-- ---- a run of places
 
 pub cleared_off : (start i n k : ℕ) (l : List ℕ) → n ≤ k → l ≡ cleared start i (n - k) l
 unfolding cleared
 cleared_off start i n k l h = let e : n - k ≡ 0 = omega arith in rw e
 
-pub cleared_more : (i n : ℕ) (l : List ℕ) → i < n → n ≤ length l → cleared 0 (i + 1) (n - (i + 1)) (set l i 0) ≡ cleared 0 i (n - i) l
-unfolding cleared
-cleared_more i n l h k =
-    let e : n - i ≡ suc (n - (i + 1)) = omega arith in
-    let p : i ≡ place (length l) 0 i = let q = place-low (length l) 0 i (omega arith) in omega arith in
-    rw (e, add-one) (ap (λ (x : ℕ). cleared 0 (suc i) (n - suc i) (set l x 0)) p)
+zeros_put : (a n : ℕ) (l : List ℕ) → a + n ≤ length l → put l a (replicate n 0) ≡ cleared 0 a n l
+unfolding cleared put
+zeros_put a zero l h = rw (append-nil, add-zero, take-append-drop)
+zeros_put a (suc n) l h =
+    let p : place (length l) 0 a ≡ a = place-low (length l) 0 a (omega arith) ∙ zero-add a in
+    let q : length (set l a 0) ≡ length l = length-set l a 0 in
+    rw p (sym (put-put l a (0 ∷ []) (replicate n 0) (omega arith)) ∙ rw (← put_one l a 0 (omega arith), add-one) (zeros_put (suc a) n (set l a 0) (omega arith)))
+
+-- as the code fills it
+pub filled_run : (l y : List ℕ) (a k n : ℕ) → y ≡ replicate (length (take k (drop a l))) 0 → k ≡ n → a + n ≤ length l
+    → take a l ++ (y ++ drop k (drop a l)) ≡ cleared 0 a n l
+filled_run l y a k n e f h =
+    let m : length (take k (drop a l)) ≡ n = rw f (length-take-le n (drop a l) (rw length-drop (omega arith))) in
+    put_over l (replicate n 0) y a k (e ∙ ap (λ (q : ℕ). replicate q 0) m) (f ∙ sym (length-replicate n 0)) ∙ zeros_put a n l h
 
 -- ---- `clear`: its indices are one run of places or two
 
@@ -84,21 +93,17 @@ round p s i a h e k =
     by_place p s i (λ x u. by_place p s (i + (p - a)) (λ y v. omega arith) (λ y v. omega arith)) (λ x u. by_place p s (i + (p - a)) (λ y v. omega arith) (λ y v. omega arith))
 
 module _ (l : List ℕ) (s i n a : ℕ) (h : s < length l) (k : i + n ≤ length l) (e : a ≡ place (length l) s i) where
-  pub clear_one : n ≤ length l - a → cleared 0 a (a + n - a) l ≡ cleared s i n l
-  clear_one b =
-      let f = place_in (length l) s i h (omega arith) in
-      let z : a + n - a ≡ n = omega arith in
-      rw z (run l s i a n h k (omega arith) e)
+  pub clear_one : n ≤ length l - a → cleared 0 a n l ≡ cleared s i n l
+  clear_one b = let f = place_in (length l) s i h (omega arith) in run l s i a n h k (omega arith) e
 
-  pub clear_two : length l - a < n → cleared 0 0 (n - (length l - a) - 0) (cleared 0 a (length l - a) l) ≡ cleared s i n l
+  pub clear_two : length l - a < n → cleared 0 0 (n - (length l - a)) (cleared 0 a (length l - a) l) ≡ cleared s i n l
   clear_two b =
       let f = place_in (length l) s i h (omega arith) in
       let m = length l - a in
-      let y : n - m - 0 ≡ n - m = omega arith in
       let z : n ≡ m + (n - m) = omega arith in
       let g = cleared-length s i m l in
       let v : 0 ≡ place (length (cleared s i m l)) s (i + m) = rw g (round (length l) s i a h e (omega arith)) in
-      rw (y, run l s i a m h (omega arith) (omega arith) e) (run (cleared s i m l) s (i + m) 0 (n - m) (omega arith) (omega arith) (omega arith) v)
+      rw (run l s i a m h (omega arith) (omega arith) e) (run (cleared s i m l) s (i + m) 0 (n - m) (omega arith) (omega arith) (omega arith) v)
       ∙ sym (ap (λ (x : ℕ). cleared s i x l) z ∙ cleared_add s i m (n - m) l)
 
 -- ---- the word at an index, once another is set or indices are cleared

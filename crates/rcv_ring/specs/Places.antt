@@ -22,6 +22,11 @@ size_at r records i = mark_at r records i - 1
 unfoldable pub payload_at : RcvRing → Lists → ℕ → List ℕ
 payload_at r l i = part_slot 1476 l.room (place (length l.records) r.start i) 0 (size_at r l.records i)
 
+-- the ring starts within its words, of which there are few
+pub record Within (r : RcvRing) (records : List ℕ) : Type 0 where
+  pub many : length records ≤ 65535
+  pub started : r.start < length records
+
 -- the lists are as long as they have to be, and the ring's numbers lie within them
 pub record Shaped (r : RcvRing) (l : Lists) : Type 0 where
   pub many : length l.records ≤ 65535

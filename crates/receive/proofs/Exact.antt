@@ -1,10 +1,9 @@
 -- The tests for 15 are true exactly when their facts hold; then the receive side is good to act on, and what is seen of it is well formed. Assumes nothing.
-use Prim.Native.Nat.{ℕ, ◌^◌, ◌<◌}
+use Prim.Native.Nat.{◌^◌, ◌<◌}
 use mathlib.Core.Path.{◌≡◌, sym, ap, ◌∙◌}
-use mathlib.Core.Bool.{Bool, true, false, not, ◌&&◌}
+use mathlib.Core.Bool.{Bool, true, ◌&&◌}
 use native.Mathlib.Omega.{arith}
 use lib.ListN.{length}
-use borrow.Author.Tests.{not-true, not-false}
 use Rattle.ring.specs.Lists.{Lists}
 use Rattle.rcv_ring.specs.Places.{Sound}
 use Rattle.rcv_ring.proofs.Tests.{fit-marked, marked-fit}
@@ -13,7 +12,6 @@ use Rattle.block.specs.declared.Kcp.{Kcp}
 use Rattle.block.specs.Sizes.{RingSizes}
 use Rattle.block.specs.WellFormed.{ReceiverFits, own_numbers, OwnNumbers}
 use Rattle.block.proofs.Exact.{Exactly, exactly_both, exactly_as, ring-sizes, own-numbers, receive-numbers}
-use Rattle.block.proofs.Together.{goes, stops}
 use Rattle.receiving.specs.Rules.{WellFormed}
 use Rattle.receive.specs.Memory.{seen}
 use Rattle.receive.specs.Fits.{receive_lent, ReceiveLent, receive_fits, ReceiveFits, Lies, Good}
@@ -84,18 +82,9 @@ module _ {r : Receiver} {l : Lists} (good : Good r l) where
         fits = good.twice;
       }
 
--- what `fits` answers, where `own` tells whether the block's own numbers are well formed
-module _ (own : Bool) (r : Receiver) (l : Lists) where
-  abbrev Tested : Bool → Type 0
-  Tested t = (t ≡ (own && receive_lent r l)) × (t ≡ true → Good r l)
-
-  pub bad-own : not own ≡ true → Tested false
-  bad-own h = (stops _ (not-true own h), λ e. let z : ◌≡◌ {A = ℕ} 0 1 = cc in absurd (omega arith))
-
-  pub by-lent : (own ≡ true → ReceiverFits r) → not own ≡ false → {t : Bool} → t ≡ receive_lent r l → Tested t
-  by-lent f h e =
-      let o : own ≡ true = not-false own h in
-      (e ∙ goes _ o, λ t. lent-good (f o) ((lent-exactly r l).holds (sym e ∙ t)))
+-- what `fits` answers says that the memory is good
+pub tested-good : {r : Receiver} {l : Lists} {t : Bool} → ReceiverFits r → t ≡ receive_lent r l → t ≡ true → Good r l
+tested-good {r} {l} f e h = lent-good f ((lent-exactly r l).holds (sym e ∙ h))
 
 -- where that is asked of the block k
 module _ (k : Kcp) {own : Bool} (asked : own ≡ own_numbers k) where

@@ -1,4 +1,5 @@
 -- The message at the front of the queue, as `message_of` counts it, and what peeksize answers and recv leaves by it. Assumes nothing.
+use Rattle.std.specs.Prelude.{Ok, Err}
 use Prim.Native.Nat.{ℕ, zero, suc, ◌+◌, ◌-◌, ◌≤◌, ◌<◌}
 use native.Mathlib.Omega.{arith}
 use native.Mathlib.Numerals.{add-one}
@@ -20,7 +21,6 @@ use Rattle.block.specs.declared.receiver.Receiver.{Receiver}
 use Rattle.block.specs.declared.refusal.Refusal.TheVariants.{RecvQueueEmpty, ExpectingFragment, UserBufTooSmall}
 use Rattle.block.specs.Parts.{with_rcv_ring}
 use Rattle.receiving.specs.Rules.{empty, expecting, gives, message, sum, expects, peeked, unless_longer}
-use Rattle.receive.specs.declared.Length.TheVariants.{Is, Refused}
 use Rattle.receive.specs.declared.Message.{Message}
 use Rattle.receive.specs.Memory.{queue_frgs, queue_sizes, Spans, move_buf_at, peek_at, answer_at, message_at, freed_at, handed_at, bytes_at, recv_by, recv_at}
 use Rattle.receive.specs.Fits.{Lies}
@@ -94,21 +94,21 @@ module _ (r : Receiver) (l : Lists) (k : ℕ) (g : RcvRing) (w : Receiver) (x : 
 -- ---- recv
 
 module _ (r : Receiver) (l : Lists) (buf : List ℕ) where
-  pub recv-empty : peek_at r l.records ≡ empty → record { receiver = r; answer = Refused RecvQueueEmpty; buf = buf } ≡ recv_at r l buf
+  pub recv-empty : peek_at r l.records ≡ empty → record { receiver = r; answer = Err RecvQueueEmpty; buf = buf } ≡ recv_at r l buf
   unfolding recv_at recv_by answer_at unless_longer
   recv-empty e = rw e
 
-  pub recv-expects : peek_at r l.records ≡ expecting → record { receiver = r; answer = Refused ExpectingFragment; buf = buf } ≡ recv_at r l buf
+  pub recv-expects : peek_at r l.records ≡ expecting → record { receiver = r; answer = Err ExpectingFragment; buf = buf } ≡ recv_at r l buf
   unfolding recv_at recv_by answer_at unless_longer
   recv-expects e = rw e
 
   module _ (n : ℕ) (e : peek_at r l.records ≡ gives n) where
-    pub recv-longer : length buf < n → record { receiver = r; answer = Refused UserBufTooSmall; buf = buf } ≡ recv_at r l buf
+    pub recv-longer : length buf < n → record { receiver = r; answer = Err UserBufTooSmall; buf = buf } ≡ recv_at r l buf
     unfolding recv_at recv_by answer_at unless_longer
     recv-longer h = rw (e, lt-ltb (length buf) n h)
 
     -- the message's k segments are handed out
     pub recv_whole : n ≤ length buf → (k : ℕ) → k ≡ message (queue_frgs r.ring l.records) → (r' : Receiver) → r' ≡ move_buf_at (freed_at (length l.records) k r) l.records
-        → (buf' : List ℕ) → buf' ≡ put buf 0 (along (payload_at r.ring l) 0 k) → record { receiver = r'; answer = Is n; buf = buf' } ≡ recv_at r l buf
+        → (buf' : List ℕ) → buf' ≡ put buf 0 (along (payload_at r.ring l) 0 k) → record { receiver = r'; answer = Ok n; buf = buf' } ≡ recv_at r l buf
     unfolding recv_at recv_by answer_at unless_longer handed_at bytes_at message_at
     recv_whole h k q r' f buf' g = rw (e, le-ltb (length buf) n h, f, g, q)

@@ -1,5 +1,5 @@
 -- The memory functions at small closed cases: three slots, of which the ring starts at the last. Assumes nothing.
-use Rattle.std.specs.Prelude.{ℕ, true, false, ◌≡◌, refl, List, [], ◌∷◌, ◌++◌, replicate}
+use Rattle.std.specs.Prelude.{ℕ, true, false, ◌≡◌, refl, List, [], ◌∷◌, ◌++◌, replicate, Ok, Err}
 use Rattle.serial.specs.Branch.{pick}
 use Rattle.serial.specs.Window.{distance}
 use Rattle.ring.specs.Lists.{lists}
@@ -11,7 +11,6 @@ use Rattle.rcv_ring.specs.Views.{span, kept, held_of, held_at, leading, ready_of
 use Rattle.block.specs.declared.receiver.Receiver.{Receiver}
 use Rattle.block.specs.declared.refusal.Refusal.TheVariants.{UserBufTooSmall}
 use Rattle.receiving.specs.Rules.{Segment, empty, expecting, longer, gives, skipped, listed, reached, message, sum, peeked, unless_longer}
-use Rattle.receive.specs.declared.Length.TheVariants.{Is, Refused}
 use Rattle.receive.specs.Memory.{held_by, queue_by, seen, Side, side, ready_at, move_buf_at, stored_in, moved_at, push_at, acks_at, list_at, skips_at, peek_at, answer_at, message_at, freed_at, handed_at, bytes_at, recv_by, recv_at, tell_bit}
 
 -- the window is as narrow as the ring
@@ -68,8 +67,8 @@ unfolding early both awaits answer_at unless_longer peek_at peeked span message 
 answers = (refl, refl, refl, refl)
 
 -- handed out into four bytes: the last stays, and the empty ring starts at place 0. Refused, all stays
-out : (recv_at both.receiver both.lent (8 ∷ 8 ∷ 8 ∷ 8 ∷ []) ≡ record { receiver = awaits 1 0 0 0; answer = Is 3; buf = 1 ∷ 3 ∷ 4 ∷ 8 ∷ [] })
-    × (recv_at both.receiver both.lent (8 ∷ 8 ∷ []) ≡ record { receiver = both.receiver; answer = Refused UserBufTooSmall; buf = 8 ∷ 8 ∷ [] })
+out : (recv_at both.receiver both.lent (8 ∷ 8 ∷ 8 ∷ 8 ∷ []) ≡ record { receiver = awaits 1 0 0 0; answer = Ok 3; buf = 1 ∷ 3 ∷ 4 ∷ 8 ∷ [] })
+    × (recv_at both.receiver both.lent (8 ∷ 8 ∷ []) ≡ record { receiver = both.receiver; answer = Err UserBufTooSmall; buf = 8 ∷ 8 ∷ [] })
 unfolding both awaits recv_at recv_by answer_at unless_longer peek_at peeked span message sum place handed_at freed_at message_at dropped_by move_buf_at ready_at ready_of leading bytes_at put part along payload_at
 out = (refl, refl)
 

@@ -1,6 +1,6 @@
 -- What the receive side's calls do to the block's numbers and to the lent memory, every number and byte: the memory functions of `move_buf`,
 -- of a push, of peeksize and recv. The decisions are those of the rules (receiving/specs/Rules), asked of the numbers in the ring. Assumes nothing.
-use Rattle.std.specs.Prelude.{ℕ, ◌+◌, ◌-◌, ◌/◌, ◌%◌, max, ◌≡◌, Bool, List, [], ◌∷◌, map, length, take, eqb, ltb, leb}
+use Rattle.std.specs.Prelude.{ℕ, ◌+◌, ◌-◌, ◌/◌, ◌%◌, max, ◌≡◌, Bool, List, [], ◌∷◌, map, length, take, eqb, ltb, leb, Result, Ok, Err}
 use Rattle.serial.specs.Branch.{pick}
 use Rattle.serial.specs.Wrap.{add32, sub32}
 use Rattle.serial.specs.Window.{distance}
@@ -19,14 +19,11 @@ use Rattle.block.specs.declared.acklist.AckList.{AckList}
 use Rattle.block.specs.declared.Kcp.{Kcp}
 use Rattle.block.specs.declared.set.Set.{Set}
 use Rattle.block.specs.declared.refusal.Refusal.TheVariants.{RecvQueueEmpty, ExpectingFragment, UserBufTooSmall, WindowTooLarge}
-use Rattle.block.specs.declared.refusal.Answer.TheVariants.{Done, Refused as NotDone}
-use Rattle.block.specs.Refusals.{number_of, values_of}
 use Rattle.block.specs.Parts.{with_congestion, with_receiver, with_rcv_ring}
 use Rattle.receiving.specs.Rules.{Segment, Receiving, Answer, empty, expecting, longer, gives, skipped, listed, reached, message, sum, peeked, unless_longer, tells, wanted, too_large}
-use Rattle.receive.specs.declared.Length.{Length}
-use Rattle.receive.specs.declared.Length.TheVariants.{Is, Refused}
 use Rattle.receive.specs.declared.Pushed.{Pushed}
 use Rattle.receive.specs.declared.Message.{Message}
+use Rattle.block.specs.declared.refusal.Refusal.{Refusal}
 
 -- ---- the memory as segments. Numbers are not stored: a held one is rcv_nxt and its distance, the i-th of the queue rcv_nxt less `queued`, and i
 
@@ -153,11 +150,11 @@ probe_at r after probe = pick (tells r.rcv_wnd r.ring.queued after) (with_tell p
 
 -- ---- answers: a length, or 5, 6 or 7
 
-unfoldable pub length_answer : Answer → Length
-length_answer empty = Refused RecvQueueEmpty
-length_answer expecting = Refused ExpectingFragment
-length_answer longer = Refused UserBufTooSmall
-length_answer (gives n) = Is n
+unfoldable pub length_answer : Answer → Result ℕ Refusal
+length_answer empty = Err RecvQueueEmpty
+length_answer expecting = Err ExpectingFragment
+length_answer longer = Err UserBufTooSmall
+length_answer (gives n) = Ok n
 
 -- 01's number and values of each case, of the rules' answers and of the calls'
 abbrev pub number_in : Answer → ℕ
@@ -172,25 +169,17 @@ values_in expecting = []
 values_in longer = []
 values_in (gives n) = n ∷ []
 
-abbrev pub number_of_length : Length → ℕ
-number_of_length (Is n) = 0
-number_of_length (Refused why) = number_of why
-
-abbrev pub values_of_length : Length → List ℕ
-values_of_length (Is n) = n ∷ []
-values_of_length (Refused why) = values_of why
-
 -- the receive side, the answer and the buffer after a recv: a refusal leaves the first and the last
 pub record RecvSide : Type 0 where
   pub receiver : Receiver
-  pub answer : Length
+  pub answer : Result ℕ Refusal
   pub buf : List ℕ
 
 unfoldable pub recv_by : Answer → Receiver → Lists → List ℕ → RecvSide
-recv_by (gives n) r l buf = record { receiver = handed_at r l.records; answer = Is n; buf = bytes_at r l buf }
-recv_by empty r l buf = record { receiver = r; answer = Refused RecvQueueEmpty; buf = buf }
-recv_by expecting r l buf = record { receiver = r; answer = Refused ExpectingFragment; buf = buf }
-recv_by longer r l buf = record { receiver = r; answer = Refused UserBufTooSmall; buf = buf }
+recv_by (gives n) r l buf = record { receiver = handed_at r l.records; answer = Ok n; buf = bytes_at r l buf }
+recv_by empty r l buf = record { receiver = r; answer = Err RecvQueueEmpty; buf = buf }
+recv_by expecting r l buf = record { receiver = r; answer = Err ExpectingFragment; buf = buf }
+recv_by longer r l buf = record { receiver = r; answer = Err UserBufTooSmall; buf = buf }
 
 unfoldable pub recv_at : Receiver → Lists → List ℕ → RecvSide
 recv_at r l buf = recv_by (answer_at (length buf) r l.records) r l buf
@@ -212,5 +201,5 @@ receive_window rcvwnd r = pick (ltb 0 rcvwnd) (widened_at (wanted rcvwnd) r) r
 unfoldable pub windows_at : ℕ → Kcp → ℕ → ℕ → Set
 windows_at slots k sndwnd rcvwnd =
     pick (too_large slots rcvwnd)
-    (record { block = k; answer = NotDone WindowTooLarge })
-    (record { block = with_receiver (with_congestion k (send_window sndwnd k.congestion)) (receive_window rcvwnd k.receiver); answer = Done })
+    (record { block = k; answer = Err WindowTooLarge })
+    (record { block = with_receiver (with_congestion k (send_window sndwnd k.congestion)) (receive_window rcvwnd k.receiver); answer = Ok tt })

@@ -18,28 +18,16 @@ use block::acklist::AckList;
 use block::congestion::Congestion;
 use block::probe::Probe;
 use block::receiver::Receiver;
-use block::refusal::{Answer, Refusal};
+use block::refusal::Refusal;
 use block::set::Set;
 use block::sizes::receive_sizes;
 use rcv_ring::RcvRing;
-
-// What peeksize and recv answer: the message's length, or why there is none.
-#[derive(Clone, Copy)]
-pub enum Length {
-    Is { length: usize },
-    Refused { why: Refusal },
-}
 
 // How many segments more the queue may hold.
 fn room_left(receiver: Receiver) -> usize
     ensures { result ≡ receiver.rcv_wnd - receiver.ring.queued }
 {
-    let window = receiver.rcv_wnd as u32;
-    let ring = receiver.ring;
-    if window < ring.queued {
-        return 0;
-    }
-    (window - ring.queued) as usize
+    (receiver.rcv_wnd as u32).saturating_sub(receiver.ring.queued) as usize
 }
 
 // Held segments move to the queue while the front is rcv_nxt and the queue is shorter than rcv_wnd; no memory moves.
@@ -48,15 +36,12 @@ pub fn move_buf(receiver: Receiver, records: &[u32]) -> Receiver
     ensures { result ≡ move_buf_at receiver records.now }
 {
     let ring = receiver.ring;
-    let n = rcv_ring::ready(ring, records, room_left(receiver));
-    receiver.with_ring(
-        serial::add(receiver.rcv_nxt, n as u32),
-        rcv_ring::moved(ring, n),
-    )
+    let n = ring.ready(records, room_left(receiver));
+    receiver.with_ring(receiver.rcv_nxt.wrapping_add(n as u32), ring.moved(n))
 }
 
 // What a push leaves: the numbers of the receiving side and of the ack list, and how many pushes were skipped, 0 or 1.
-#[derive(Clone, Copy)]
+#[derive(Clone, Copy, Debug, PartialEq, Eq)]
 pub struct Pushed {
     pub receiver: Receiver,
     pub acklist: AckList,
@@ -80,10 +65,10 @@ fn parse_data(
 {
     let ring = receiver.ring;
     let d = serial::distance_of(receiver.rcv_nxt, sn);
-    if rcv_ring::is_held(ring, records, d) {
+    if ring.is_held(records, d) {
         return move_buf(receiver, records);
     }
-    let with = rcv_ring::store(ring, records, room, d, frg, payload);
+    let with = ring.store(records, room, d, frg, payload);
     move_buf(receiver.with_ring(receiver.rcv_nxt, with), records)
 }
 
@@ -110,28 +95,27 @@ pub fn push(
     let wnd = receiver.rcv_wnd as u32;
     if !serial::acknowledged(nxt, wnd, sn) {
         return Pushed {
-            receiver: receiver,
-            acklist: acklist,
+            receiver,
+            acklist,
             skipped: 0,
         };
     }
     let n = acklist.acks as usize;
     if acks.len() / 2 <= n {
         return Pushed {
-            receiver: receiver,
-            acklist: acklist,
+            receiver,
+            acklist,
             skipped: 1,
         };
     }
-    let pair = [sn, ts];
-    ring::put_record(acks, n, &pair);
+    ring::put_record(acks, n, &[sn, ts]);
     let list = AckList {
         acks: acklist.acks + 1,
-        waiting: acklist.waiting,
+        ..acklist
     };
     if !serial::in_window(nxt, wnd, sn) {
         return Pushed {
-            receiver: receiver,
+            receiver,
             acklist: list,
             skipped: 0,
         };
@@ -144,7 +128,7 @@ pub fn push(
 }
 
 // How many segments the message at the front of the queue has, and how many bytes.
-#[derive(Clone, Copy)]
+#[derive(Clone, Copy, Debug, PartialEq, Eq)]
 pub struct Message {
     pub segments: usize,
     pub size: usize,
@@ -158,58 +142,50 @@ fn message_of(ring: RcvRing, records: &[u32]) -> Message
     ensures { Spans (queue_frgs ring records.now) (queue_sizes ring records.now) result }
 {
     let count = ring.queued as usize;
-    let mut size: usize = 0;
-    let mut i = 0;
-    while i < count {
-        size += rcv_ring::size_at(ring, records, i);
-        if rcv_ring::frg_at(ring, records, i) == 0 {
+    let mut size = 0;
+    for i in 0..count {
+        size += ring.size_at(records, i);
+        if ring.frg_at(records, i) == 0 {
             return Message {
                 segments: i + 1,
                 size,
             };
         }
-        i += 1;
     }
-    Message { segments: i, size }
+    Message {
+        segments: count,
+        size,
+    }
 }
 
 // Whether a front segment with this frg needs more segments than are queued; frg + 1 is a whole number.
 fn expecting(frg: u32, queued: u32) -> bool
     ensures { result ≡ expects frg queued }
 {
-    if frg == 0 {
-        return false;
-    }
-    queued <= frg
+    frg != 0 && queued <= frg
 }
 
 // The length of the message at the front of the queue; refused by 5 where the queue is empty, and by 6 where a fragment is still expected.
-pub fn peeksize(receiver: Receiver, records: &[u32]) -> Length
+pub fn peeksize(receiver: Receiver, records: &[u32]) -> Result<usize, Refusal>
     requires { Lies receiver records.now }
     ensures { result ≡ length_answer (peek_at receiver records.now) }
 {
     let ring = receiver.ring;
     if ring.queued == 0 {
-        return Length::Refused {
-            why: Refusal::RecvQueueEmpty,
-        };
+        return Err(Refusal::RecvQueueEmpty);
     }
-    if expecting(rcv_ring::frg_at(ring, records, 0), ring.queued) {
-        return Length::Refused {
-            why: Refusal::ExpectingFragment,
-        };
+    if expecting(ring.frg_at(records, 0), ring.queued) {
+        return Err(Refusal::ExpectingFragment);
     }
     let message = message_of(ring, records);
-    Length::Is {
-        length: message.size,
-    }
+    Ok(message.size)
 }
 
 // What recv leaves: the numbers of the receiving side, and its answer.
-#[derive(Clone, Copy)]
+#[derive(Clone, Copy, Debug, PartialEq, Eq)]
 pub struct Handed {
     pub receiver: Receiver,
-    pub answer: Length,
+    pub answer: Result<usize, Refusal>,
 }
 
 // Hands the first `count` segments of the queue out into `buf`: they leave the queue, their slots are free, and held segments move.
@@ -227,8 +203,8 @@ fn hand_out(
     ensures buf_after { buf.new ≡ put buf.old 0 (along (payload_at receiver.ring (lists records.now room.now)) 0 count) }
 {
     let ring = receiver.ring;
-    rcv_ring::copy_out(ring, records, room, count, buf);
-    let less = rcv_ring::dropped(ring, records.len(), count);
+    ring.copy_out(records, room, count, buf);
+    let less = ring.dropped(records.len(), count);
     move_buf(receiver.with_ring(receiver.rcv_nxt, less), records)
 }
 
@@ -241,38 +217,31 @@ pub fn recv(receiver: Receiver, records: &[u32], room: &[u8], buf: &mut [u8]) ->
     let ring = receiver.ring;
     if ring.queued == 0 {
         return Handed {
-            receiver: receiver,
-            answer: Length::Refused {
-                why: Refusal::RecvQueueEmpty,
-            },
+            receiver,
+            answer: Err(Refusal::RecvQueueEmpty),
         };
     }
-    if expecting(rcv_ring::frg_at(ring, records, 0), ring.queued) {
+    if expecting(ring.frg_at(records, 0), ring.queued) {
         return Handed {
-            receiver: receiver,
-            answer: Length::Refused {
-                why: Refusal::ExpectingFragment,
-            },
+            receiver,
+            answer: Err(Refusal::ExpectingFragment),
         };
     }
     let message = message_of(ring, records);
     if buf.len() < message.size {
         return Handed {
-            receiver: receiver,
-            answer: Length::Refused {
-                why: Refusal::UserBufTooSmall,
-            },
+            receiver,
+            answer: Err(Refusal::UserBufTooSmall),
         };
     }
     Handed {
         receiver: hand_out(receiver, records, room, message.segments, buf),
-        answer: Length::Is {
-            length: message.size,
-        },
+        answer: Ok(message.size),
     }
 }
 
 // The bits of a probe with the tell bit set.
+#[tactic(auto, unfolding(crate::specs::Memory::tell_bit, serial::specs::Branch::pick))]
 fn tell_bit(bits: u32) -> u32
     ensures { result ≡ tell_bit bits }
 {
@@ -285,108 +254,94 @@ pub fn tell(probe: Probe) -> Probe
 {
     Probe {
         bits: tell_bit(probe.bits),
-        ts_probe: probe.ts_probe,
-        probe_wait: probe.probe_wait,
+        ..probe
     }
 }
 
 // The probe after a recv: a tell is to go out if the queue was at or over the window and now is under.
+#[tactic(auto, unfolding(crate::specs::Memory::probe_at, serial::specs::Branch::pick))]
 pub fn recovered(probe: Probe, before: Receiver, after: u32) -> Probe
     ensures { result ≡ probe_at before after probe }
 {
     let window = before.rcv_wnd as u32;
-    let ring = before.ring;
-    if ring.queued < window {
-        return probe;
+    if window <= before.ring.queued && after < window {
+        tell(probe)
+    } else {
+        probe
     }
-    if after < window {
-        return tell(probe);
-    }
-    probe
 }
 
 // Whether a receive window asks for more slots than are lent.
+#[tactic(auto, unfolding(receiving::specs::Rules::too_large))]
 fn too_large(slots: usize, rcvwnd: u16) -> bool
     ensures { result ≡ too_large slots rcvwnd }
 {
-    if rcvwnd == 0 {
-        return false;
-    }
-    slots < 2 * at_least(rcvwnd, Kcp::WND_RCV) as usize
-}
-
-// The greater of two windows.
-fn at_least(a: u16, b: u16) -> u16
-    ensures { result ≡ max a b }
-{
-    if a < b { b } else { a }
+    rcvwnd != 0 && slots < 2 * rcvwnd.max(Kcp::WND_RCV) as usize
 }
 
 // The windows of the sending side with this send window; 0 leaves it.
+#[tactic(auto, unfolding(crate::specs::Memory::send_window, serial::specs::Branch::pick))]
 fn send_window(congestion: Congestion, sndwnd: u16) -> Congestion
     ensures { result ≡ send_window sndwnd congestion }
 {
     if sndwnd == 0 {
-        return congestion;
-    }
-    Congestion {
-        snd_wnd: sndwnd,
-        rmt_wnd: congestion.rmt_wnd,
-        cwnd: congestion.cwnd,
-        ssthresh: congestion.ssthresh,
-        incr: congestion.incr,
+        congestion
+    } else {
+        Congestion {
+            snd_wnd: sndwnd,
+            ..congestion
+        }
     }
 }
 
 // The receiving side with this receive window, at least 128; 0 leaves it.
+#[tactic(auto, unfolding(crate::specs::Memory::receive_window, crate::specs::Memory::widened_at, serial::specs::Branch::pick))]
 fn receive_window(receiver: Receiver, rcvwnd: u16) -> Receiver
     ensures { result ≡ receive_window rcvwnd receiver }
 {
     if rcvwnd == 0 {
         return receiver;
     }
-    let window = at_least(rcvwnd, Kcp::WND_RCV);
-    let ring = receiver.ring;
+    let window = rcvwnd.max(Kcp::WND_RCV);
     Receiver {
-        rcv_nxt: receiver.rcv_nxt,
         rcv_wnd: window,
-        largest: at_least(receiver.largest, window),
-        ring: ring,
+        largest: receiver.largest.max(window),
+        ..receiver
     }
 }
 
 // Sets both windows beside so many lent slots; refused by 14, which leaves both.
+#[tactic(auto, unfolding(crate::specs::Memory::windows_at, serial::specs::Branch::pick))]
 pub fn set_wndsize(block: Kcp, slots: usize, sndwnd: u16, rcvwnd: u16) -> Set
     ensures { result ≡ windows_at slots block sndwnd rcvwnd }
 {
     if too_large(slots, rcvwnd) {
         return Set {
-            block: block,
-            answer: Answer::Refused {
-                why: Refusal::WindowTooLarge,
-            },
+            block,
+            answer: Err(Refusal::WindowTooLarge),
         };
     }
     let congestion = send_window(block.congestion, sndwnd);
     let receiver = receive_window(block.receiver, rcvwnd);
     Set {
-        block: block.with_congestion(congestion).with_receiver(receiver),
-        answer: Answer::Done,
+        block: Kcp {
+            congestion,
+            receiver,
+            ..block
+        },
+        answer: Ok(()),
     }
 }
 
 // Whether the receive memory is well formed beside a receiver whose own numbers are.
+#[tactic(auto, unfolding(crate::specs::Fits::receive_lent))]
 pub fn lent_fits(receiver: Receiver, records: &[u32], room: &[u8]) -> bool
     requires { ReceiverFits receiver }
     ensures { result ≡ receive_lent receiver (lists records.now room.now) }
 {
-    if !receive_sizes(records.len(), room.len()) {
-        return false;
-    }
-    if !receiver.receive_numbers(records.len()) {
-        return false;
-    }
-    rcv_ring::marks_fit(receiver.ring, records)
+    receive_sizes(records.len(), room.len())
+        && receiver.receive_numbers(records.len())
+        && receiver.ring.marks_fit(records)
 }
 
 // Whether block and receive memory are well formed, where `own` tells whether the block's own numbers are. A call is handed the part that it looks at
@@ -396,8 +351,5 @@ pub fn fits(own: bool, receiver: Receiver, records: &[u32], room: &[u8]) -> bool
     ensures value { result ≡ (own && receive_lent receiver (lists records.now room.now)) }
     ensures good { result ≡ true → Good receiver (lists records.now room.now) }
 {
-    if !own {
-        return false;
-    }
-    lent_fits(receiver, records, room)
+    own && lent_fits(receiver, records, room)
 }

@@ -1,4 +1,4 @@
--- `Zeros` has the buffers of zeros, `Loops` the loops over numbers and bytes, `Branches` the choice of a call by its code, `Whole` whether a whole step is
+-- `Zeros` has the buffers of zeros, `Loops` the loops over numbers and bytes, `Branches` a choice by an order of numbers, `Whole` whether a whole step is
 -- left; `Looking` and `Making` the steps of the calls.
 pub mod Zeros
 pub mod Loops

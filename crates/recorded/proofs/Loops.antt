@@ -1,22 +1,30 @@
 -- The loops over numbers and over the bytes of a message, one turn and the end of each. Assumes nothing.
-use Rattle.std.proofs.Common.{◌≡◌, ℕ, suc, ◌+◌, ◌-◌, ◌%◌, ◌<◌, ◌≤◌, List, ◌++◌, length, get_or, take, drop, set, refl, append_assoc, append-nil, add-one, arith, drop_of_length-le, take_all, drop-cons, take-suc-set}
+use Rattle.std.proofs.Common.{◌≡◌, ℕ, suc, ◌+◌, ◌-◌, ◌%◌, ◌<◌, ◌≤◌, List, [], ◌∷◌, ◌++◌, map, ap, ◌∙◌, length, get_or, take, drop, set, refl, append_assoc, append-nil, add-one, arith, drop_of_length-le, take_all, drop-cons, take-suc-set}
 use Rattle.serial.specs.Wrap.{add32, mul32}
-use Rattle.recorded.specs.Sums.{sum_from, sum_of, rising}
+use Rattle.recorded.specs.Sums.{sum_from, sum_of, rising, Wide}
 
 -- nothing is summed yet
-pub sum_first : (ns : List ℕ) → sum_from 0 0 (drop 0 ns) ≡ sum_of ns
+pub sum_first : {T : Type 0} (f : T → ℕ) (ns : List T) → sum_from 0 0 (map f (drop 0 ns)) ≡ sum_of (map f ns)
 unfolding sum_of
-sum_first ns = refl
+sum_first f ns = refl
 
--- the number at i goes into the sum
-pub sum_more : (ns : List ℕ) (place sum i : ℕ) → i < length ns
-    → sum_from (add32 place 1) (add32 sum (mul32 (get_or ns i 0) (add32 place 1))) (drop (i + 1) ns) ≡ sum_from place sum (drop i ns)
+-- the number x at i goes into the sum, as n
+pub sum_more : {T : Type 0} (f : T → ℕ) (ns : List T) (x : T) (place sum i n : ℕ) → i < length ns → x ≡ get_or ns i x → n ≡ f x
+    → sum_from (add32 place 1) (add32 sum (mul32 n (add32 place 1))) (map f (drop (i + 1) ns)) ≡ sum_from place sum (map f (drop i ns))
 unfolding sum_from
-sum_more ns place sum i h = rw (add-one i, drop-cons ns i 0 h)
+sum_more f ns x place sum i n h e g = rw (add-one i, drop-cons ns i x h, ← e, g)
 
-pub sum-end : (ns : List ℕ) (place sum i : ℕ) → length ns ≤ i → sum_from place sum (drop i ns) ≡ sum
+pub sum-end : {T : Type 0} (f : T → ℕ) (ns : List T) (place sum i : ℕ) → length ns ≤ i → sum_from place sum (map f (drop i ns)) ≡ sum
 unfolding sum_from
-sum-end ns place sum i h = rw (drop_of_length-le ns h)
+sum-end f ns place sum i h = rw (drop_of_length-le ns h)
+
+-- a number converts to itself
+map-same : (ns : List ℕ) → map (λ n. n) ns ≡ ns
+map-same [] = refl
+map-same (n ∷ ns) = ap (λ (r : List ℕ). n ∷ r) (map-same ns)
+
+pub sum_plain : (ns : List ℕ) {n : ℕ} → ((f : ℕ → ℕ) → Wide (λ x y. y ≡ x) f → n ≡ sum_of (map f ns)) → n ≡ sum_of ns
+sum_plain ns h = h (λ n. n) (λ x n e. e) ∙ ap sum_of (map-same ns)
 
 -- the byte at i is written, and the next is 7 more
 pub fill_more : (bs : List ℕ) (byte i n : ℕ) → i < n → length bs ≡ n

@@ -1,45 +1,44 @@
 -- The calls that change lent memory, and the choice among all: each step of the code against its definition. Assumes nothing.
-use Rattle.std.proofs.Common.{◌≡◌, ℕ, ◌%◌, ◌<◌, ◌≤◌, List, sym, ap, ◌∙◌}
+use Rattle.std.specs.Prelude.{Result}
+use Rattle.std.proofs.Common.{◌≡◌, ℕ, Option, ◌%◌, ◌<◌, ◌≤◌, List, sym, ap, ◌∙◌}
 use Rattle.ring.specs.Lists.{Lists}
 use Rattle.snd_ring.specs.Store.{store_of}
 use Rattle.block.specs.declared.Kcp.{Kcp}
-use Rattle.block.specs.declared.refusal.Answer.{Answer as Told}
-use Rattle.block.specs.declared.refusal.Bytes.{Bytes}
-use Rattle.packing.specs.FlushAck.{Writing, writing}
-use Rattle.output.specs.Memory.{FlushOut}
+use Rattle.block.specs.declared.refusal.Refusal.{Refusal}
+use Rattle.packing.specs.FlushAck.{writing}
 use Rattle.kcp_send.specs.Send.{send_of}
 use Rattle.kcp_input.specs.Input.{input_of}
-use Rattle.kcp_flush.specs.Calls.{flush_ack_of, flush_of, update_of}
+use Rattle.kcp_flush.specs.Calls.{flush_ack_of}
 use Rattle.history.specs.Calls.{Memory}
 use Rattle.history.proofs.Stores.{lists_back}
 use Rattle.recorded.specs.declared.rows.Row.{Row}
 use Rattle.recorded.specs.declared.looks.Made.{Made}
 use Rattle.recorded.specs.Sums.{sum_of, rising, zeros}
-use Rattle.recorded.specs.Answers.{unknown, of_bytes, of_out}
-use Rattle.recorded.specs.Looks.{made, look_of}
-use Rattle.recorded.specs.Calls.{Played, Sent, Acked, Flushed, lent_in, with_made, with_sent, with_acked, with_flushed, by_input, input_step, by_send, send_step, to_write, by_flush_ack, flush_ack_step, by_flush, flushed_of, flush_step, play_of}
-use Rattle.recorded.proofs.Branches.{is, other, under, over}
+use Rattle.recorded.specs.Answers.{unknown, of_count, of_out}
+use Rattle.recorded.specs.Looks.{made}
+use Rattle.recorded.specs.Calls.{Sent, by_input, input_step, by_send, send_step, to_write, by_flush_ack, flush_ack_step, by_flush, flushed_of, flush_step}
+use Rattle.recorded.proofs.Branches.{under, over}
 
 -- ---- input
 
-pub inputs : (m : Memory) (s : List ℕ) {b : Kcp} {a : Bytes} {n : ℕ} {rcv : Lists} {acks : List ℕ} {l : Lists}
+pub inputs : (m : Memory) (s : List ℕ) {b : Kcp} {a : Result ℕ Refusal} {n : ℕ} {rcv : Lists} {acks : List ℕ} {l : Lists}
     → record { block = b; answer = a; skipped = n; rcv = rcv; acks = acks; snd = store_of 8 l } ≡ input_of m.block m.rcv m.acks m.waiting m.snd s
-    → {x : Made} → x ≡ made b (of_bytes a n)
+    → {x : Made} → x ≡ made b (of_count a n)
     → record { memory = record { block = x.block; rcv = rcv; acks = acks; waiting = m.waiting; snd = l }; answer = x.answer } ≡ input_step m s
 unfolding input_step
 inputs m s {b} {a} {n} {rcv} {acks} {l} e f =
     ap (λ (x : Made). record { memory = record { block = x.block; rcv = rcv; acks = acks; waiting = m.waiting; snd = l }; answer = x.answer }) f
-    ∙ ap (λ (q : Lists). record { memory = record { block = b; rcv = rcv; acks = acks; waiting = m.waiting; snd = q }; answer = of_bytes a n }) (sym (lists_back l))
+    ∙ ap (λ (q : Lists). record { memory = record { block = b; rcv = rcv; acks = acks; waiting = m.waiting; snd = q }; answer = of_count a n }) (sym (lists_back l))
     ∙ ap (by_input m) e
 
 -- ---- send
 
 module _ (k : Kcp) (l : Lists) where
-  pub sends_in : (byte n : ℕ) {m : List ℕ} → m ≡ rising byte n → {b : Kcp} {a : Bytes} {q : Lists} → record { block = b; answer = a; store = store_of 8 q } ≡ send_of k l m
-      → {x : Made} → x ≡ made b (of_bytes a 0) → record { block = x.block; answer = x.answer; snd = q } ≡ by_send (send_of k l (rising byte n))
+  pub sends_in : (byte n : ℕ) {m : List ℕ} → m ≡ rising byte n → {b : Kcp} {a : Result ℕ Refusal} {q : Lists} → record { block = b; answer = a; store = store_of 8 q } ≡ send_of k l m
+      → {x : Made} → x ≡ made b (of_count a 0) → record { block = x.block; answer = x.answer; snd = q } ≡ by_send (send_of k l (rising byte n))
   sends_in byte n f {b} {a} {q} e g =
       ap (λ (x : Made). record { block = x.block; answer = x.answer; snd = q }) g
-      ∙ ap (λ (z : Lists). record { block = b; answer = of_bytes a 0; snd = z }) (sym (lists_back q))
+      ∙ ap (λ (z : Lists). record { block = b; answer = of_count a 0; snd = z }) (sym (lists_back q))
       ∙ ap by_send (e ∙ ap (send_of k l) f)
 
   pub send-long : (r : Row) {x : Made} → x ≡ made k unknown → {n : ℕ} → n ≡ r.a → 4096 < n → record { block = x.block; answer = x.answer; snd = l } ≡ send_step r k l
@@ -57,11 +56,11 @@ as_lent : (waiting : List ℕ) {out lengths : List ℕ} → out ≡ zeros 16384 
 as_lent waiting f g = rw (f, g)
 
 -- the answer of a flush, with its sums
-summed : (b : Kcp) (a : Told) (d : ℕ) (o l : List ℕ) {n s : ℕ} → n ≡ sum_of l → s ≡ sum_of o → {x : Made} → x ≡ made b (of_out a d n s) → x ≡ made b (of_out a d (sum_of l) (sum_of o))
+summed : (b : Kcp) (a : Result Unit Refusal) (d : ℕ) (o l : List ℕ) {n s : ℕ} → n ≡ sum_of l → s ≡ sum_of o → {x : Made} → x ≡ made b (of_out a d n s) → x ≡ made b (of_out a d (sum_of l) (sum_of o))
 summed b a d o l i j h = h ∙ rw (i, j)
 
 pub acks-out : (k : Kcp) (acks waiting : List ℕ) {out lengths : List ℕ} → out ≡ zeros 16384 → lengths ≡ zeros 1024
-    → {b : Kcp} {a : Told} {d : ℕ} {w o l : List ℕ} → record { block = b; answer = a; datagrams = d; written = writing w o l } ≡ flush_ack_of k acks (writing waiting out lengths)
+    → {b : Kcp} {a : Result Unit Refusal} {d : ℕ} {w o l : List ℕ} → record { block = b; answer = a; datagrams = d; written = writing w o l } ≡ flush_ack_of k acks (writing waiting out lengths)
     → {n s : ℕ} → n ≡ sum_of l → s ≡ sum_of o → {x : Made} → x ≡ made b (of_out a d n s)
     → record { block = x.block; answer = x.answer; waiting = w } ≡ flush_ack_step k acks waiting
 unfolding flush_ack_step
@@ -69,48 +68,14 @@ acks-out k acks waiting f g {b} {a} {d} {w} {o} {l} e i j h =
     ap (λ (x : Made). record { block = x.block; answer = x.answer; waiting = w }) (summed b a d o l i j h)
     ∙ ap by_flush_ack (e ∙ ap (flush_ack_of k acks) (as_lent waiting f g))
 
-module _ (r : Row) (k : Kcp) (snd : Lists) (acks : List ℕ) where
-  pub flushes : (w : Writing) {o : FlushOut} → o ≡ flush_of k snd acks w → r.code ≡ 3 → o ≡ flushed_of r k snd acks w
-  unfolding flushed_of
-  flushes w e h = e ∙ sym (is _ _ h)
-
-  pub updates : (w : Writing) {o : FlushOut} → o ≡ update_of k snd acks w r.a → (r.code ≡ 3 → ⊥) → o ≡ flushed_of r k snd acks w
-  unfolding flushed_of
-  updates w e h = e ∙ sym (other _ _ h)
-
+module _ (current : Option ℕ) (k : Kcp) (snd : Lists) (acks : List ℕ) where
   pub flushed-out : (waiting : List ℕ) {out lengths : List ℕ} → out ≡ zeros 16384 → lengths ≡ zeros 1024
-      → {b : Kcp} {a : Told} {d : ℕ} {o l : List ℕ} {q : Lists}
-      → record { out = record { block = b; answer = a; datagrams = d; written = writing waiting o l }; store = store_of 8 q } ≡ flushed_of r k snd acks (writing waiting out lengths)
+      → {b : Kcp} {a : Result Unit Refusal} {d : ℕ} {o l : List ℕ} {q : Lists}
+      → record { out = record { block = b; answer = a; datagrams = d; written = writing waiting o l }; store = store_of 8 q } ≡ flushed_of current k snd acks (writing waiting out lengths)
       → {n s : ℕ} → n ≡ sum_of l → s ≡ sum_of o → {x : Made} → x ≡ made b (of_out a d n s)
-      → record { block = x.block; answer = x.answer; waiting = waiting; snd = q } ≡ flush_step r k snd acks waiting
+      → record { block = x.block; answer = x.answer; waiting = waiting; snd = q } ≡ flush_step current k snd acks waiting
   unfolding flush_step
   flushed-out waiting f g {b} {a} {d} {o} {l} {q} e i j h =
       ap (λ (x : Made). record { block = x.block; answer = x.answer; waiting = waiting; snd = q }) (summed b a d o l i j h)
       ∙ ap (λ (z : Lists). record { block = b; answer = of_out a d (sum_of l) (sum_of o); waiting = waiting; snd = z }) (sym (lists_back q))
-      ∙ ap by_flush (e ∙ ap (flushed_of r k snd acks) (as_lent waiting f g))
-
--- ---- each by its code
-
-module _ (r : Row) (s : List ℕ) (m : Memory) where
-  pub play-input : {x : Played} → x ≡ input_step m s → r.code ≡ 0 → x ≡ play_of r s m
-  unfolding play_of
-  play-input e h = e ∙ sym (is _ _ h)
-
-  module _ (not0 : r.code ≡ 0 → ⊥) where
-    pub play-send : {x : Sent} → x ≡ send_step r m.block m.snd → r.code ≡ 1 → with_sent m x ≡ play_of r s m
-    unfolding play_of
-    play-send e h = ap (with_sent m) e ∙ sym (other _ _ not0 ∙ is _ _ h)
-
-    module _ (not1 : r.code ≡ 1 → ⊥) where
-      pub play-acks : {x : Acked} → x ≡ flush_ack_step m.block m.acks m.waiting → r.code ≡ 2 → with_acked m x ≡ play_of r s m
-      unfolding play_of
-      play-acks e h = ap (with_acked m) e ∙ sym (other _ _ not0 ∙ other _ _ not1 ∙ is _ _ h)
-
-      module _ (not2 : r.code ≡ 2 → ⊥) where
-        pub play-flush : {x : Flushed} → x ≡ flush_step r m.block m.snd m.acks m.waiting → r.code < 5 → with_flushed m x ≡ play_of r s m
-        unfolding play_of
-        play-flush e h = ap (with_flushed m) e ∙ sym (other _ _ not0 ∙ other _ _ not1 ∙ other _ _ not2 ∙ under _ _ h)
-
-        pub play_look : {x : Made} → x ≡ look_of r s m.block (lent_in m) → 5 ≤ r.code → with_made m x ≡ play_of r s m
-        unfolding play_of
-        play_look e h = ap (with_made m) e ∙ sym (other _ _ not0 ∙ other _ _ not1 ∙ other _ _ not2 ∙ over _ _ h)
+      ∙ ap by_flush (e ∙ ap (flushed_of current k snd acks) (as_lent waiting f g))

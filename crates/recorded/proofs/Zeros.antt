@@ -1,18 +1,10 @@
--- Buffers of zeros: their length, and their parts. Assumes nothing.
-use Rattle.std.proofs.Common.{◌≡◌, ℕ, zero, suc, ◌≤◌, List, ◌∷◌, length, take, replicate, sym, refl, ap, arith}
-use lib.ListN.{length-replicate}
+-- Buffers of zeros, and their parts. Assumes nothing.
+use Rattle.std.proofs.Common.{◌≡◌, ℕ, zero, suc, ◌≤◌, List, ◌∷◌, take, replicate, refl, ap, arith}
 use Rattle.recorded.specs.Sums.{zeros}
 
-pub as_long : (n : ℕ) → n ≡ length {A = ℕ} (replicate n 0)
-as_long n = sym (length-replicate {0} {A = ℕ} n 0)
-
-pub all-zeros : (n : ℕ) → (◌≡◌ {A = List ℕ} (replicate n 0) (zeros n)) × (n ≡ length {A = ℕ} (replicate n 0))
+pub all-zeros : (n : ℕ) {xs : List ℕ} → xs ≡ replicate n 0 → xs ≡ zeros n
 unfolding zeros
-all-zeros n = (refl, as_long n)
-
-pub zeros-length : (n : ℕ) → length (zeros n) ≡ n
-unfolding zeros
-zeros-length n = length-replicate {0} {A = ℕ} n 0
+all-zeros n e = e
 
 -- the first n of them
 pub zeros-part : (n k : ℕ) → n ≤ k → take n (zeros k) ≡ zeros n

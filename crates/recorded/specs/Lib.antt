@@ -1,5 +1,6 @@
 pub mod Sums
 pub mod Rows
 pub mod Answers
+pub mod Memory
 pub mod Looks
 pub mod Calls

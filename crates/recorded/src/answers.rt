@@ -1,14 +1,12 @@
 // What a call answers, as the numbers of a step.
-ghost use Rattle.std.specs.Prelude.{◌≡◌};
-ghost use Rattle.recorded.specs.Answers.{refused_by, unknown, of_answer, of_bytes, of_length, of_wait, of_number, of_put, of_out};
+ghost use Rattle.std.specs.Prelude.{◌≡◌, ℕ};
+ghost use Rattle.recorded.specs.Answers.{refused_by, unknown, answered, of_out, as_refusal};
 
-use block::refusal::{Bytes, Refusal};
-use kcp_flush::Wait;
-use receive::Length;
-use wire::{Number, Put};
+use block::refusal::Refusal;
+use wire::ShortHeader;
 
 // The refusal's number or 0, its values or the number that is answered, and the sum of what comes out.
-#[derive(Clone, Copy)]
+#[derive(Clone, Copy, PartialEq, Eq)]
 pub struct Answer {
     pub refusal: u32,
     pub first: usize,
@@ -30,7 +28,40 @@ pub fn unknown() -> Answer
     }
 }
 
+// What a call that is not refused answers, as a number.
+pub trait Counted {
+    ghost count_of: { Self → ℕ };
+
+    fn count(self) -> usize
+        ensures { result ≡ count_of self };
+}
+
+impl Counted for () {
+    ghost count_of = { λ x. 0 };
+
+    fn count(self) -> usize {
+        0
+    }
+}
+
+impl Counted for u32 {
+    ghost count_of = { λ x. x };
+
+    fn count(self) -> usize {
+        self as usize
+    }
+}
+
+impl Counted for usize {
+    ghost count_of = { λ x. x };
+
+    fn count(self) -> usize {
+        self
+    }
+}
+
 // A call that is refused.
+#[tactic(auto, unfolding(crate::specs::Answers::refused_by))]
 fn refused_by(why: Refusal, sum: u32) -> Answer
     ensures { result ≡ refused_by why sum }
 {
@@ -39,115 +70,43 @@ fn refused_by(why: Refusal, sum: u32) -> Answer
         refusal: why.number(),
         first: values.first,
         second: values.second,
-        sum: sum,
+        sum,
     }
 }
 
-pub fn of_answer(answer: block::refusal::Answer) -> Answer
-    ensures { result ≡ of_answer answer }
+// What a call answers, with the sum of what comes out.
+pub fn answered<T: Counted>(answer: Result<T, Refusal>, sum: u32) -> Answer
+    ensures { result ≡ answered T.count_of answer sum }
 {
     match answer {
-        block::refusal::Answer::Done => Answer {
+        Ok(x) => Answer {
             refusal: 0,
-            first: 0,
+            first: x.count(),
             second: 0,
-            sum: 0,
+            sum,
         },
-        block::refusal::Answer::Refused { why } => refused_by(why, 0),
-    }
-}
-
-pub fn of_bytes(answer: Bytes, sum: u32) -> Answer
-    ensures { result ≡ of_bytes answer sum }
-{
-    match answer {
-        Bytes::Are { count } => Answer {
-            refusal: 0,
-            first: count,
-            second: 0,
-            sum: sum,
-        },
-        Bytes::Refused { why } => refused_by(why, sum),
-    }
-}
-
-pub fn of_length(answer: Length, sum: u32) -> Answer
-    ensures { result ≡ of_length answer sum }
-{
-    match answer {
-        Length::Is { length } => Answer {
-            refusal: 0,
-            first: length,
-            second: 0,
-            sum: sum,
-        },
-        Length::Refused { why } => refused_by(why, sum),
-    }
-}
-
-pub fn of_wait(answer: Wait) -> Answer
-    ensures { result ≡ of_wait answer }
-{
-    match answer {
-        Wait::Is { wait } => Answer {
-            refusal: 0,
-            first: crate::rows::wide(wait),
-            second: 0,
-            sum: 0,
-        },
-        Wait::Refused { why } => refused_by(why, 0),
-    }
-}
-
-pub fn of_number(answer: Number) -> Answer
-    ensures { result ≡ of_number answer }
-{
-    match answer {
-        Number::Is(n) => Answer {
-            refusal: 0,
-            first: crate::rows::wide(n),
-            second: 0,
-            sum: 0,
-        },
-        Number::ShortHeader => Answer {
-            refusal: wire::SHORT_HEADER,
-            first: 0,
-            second: 0,
-            sum: 0,
-        },
-    }
-}
-
-pub fn of_put(answer: Put, sum: u32) -> Answer
-    ensures { result ≡ of_put answer sum }
-{
-    match answer {
-        Put::Done => Answer {
-            refusal: 0,
-            first: 0,
-            second: 0,
-            sum: sum,
-        },
-        Put::ShortHeader => Answer {
-            refusal: wire::SHORT_HEADER,
-            first: 0,
-            second: 0,
-            sum: sum,
-        },
+        Err(why) => refused_by(why, sum),
     }
 }
 
 // How many datagrams went out, the sum of their lengths and that of their bytes.
-pub fn of_out(answer: block::refusal::Answer, datagrams: usize, lengths: u32, sum: u32) -> Answer
+pub fn of_out(answer: Result<(), Refusal>, datagrams: usize, lengths: u32, sum: u32) -> Answer
     ensures { result ≡ of_out answer datagrams lengths sum }
 {
     match answer {
-        block::refusal::Answer::Done => Answer {
+        Ok(()) => Answer {
             refusal: 0,
             first: datagrams,
-            second: crate::rows::wide(lengths),
-            sum: sum,
+            second: lengths as usize,
+            sum,
         },
-        block::refusal::Answer::Refused { why } => refused_by(why, sum),
+        Err(why) => refused_by(why, sum),
     }
+}
+
+// What a header helper answers, as a call does.
+pub fn as_refusal<T: Copy>(answer: Result<T, ShortHeader>) -> Result<T, Refusal>
+    ensures { result ≡ as_refusal answer }
+{
+    Ok(answer?)
 }

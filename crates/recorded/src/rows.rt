@@ -1,7 +1,7 @@
-// The steps of the recording, as the head of oracle/driver/src/bin/sample.rs has them.
-ghost use Rattle.std.specs.Prelude.{◌≡◌, ◌+◌, ◌<◌, ◌≤◌, true, [], ◌∷◌, length};
-ghost use Rattle.wire.specs.LittleEndian.{le_at, number};
-ghost use Rattle.recorded.specs.Rows.{row_at, whole_at, Whole};
+// The steps of the recording, as the head of oracle/driver/src/bin/sample.rs has them, and the calls that they name.
+ghost use Rattle.std.specs.Prelude.{◌≡◌, ◌+◌, ◌≤◌, true, length};
+ghost use Rattle.wire.specs.LittleEndian.{le_at};
+ghost use Rattle.recorded.specs.Rows.{row_at, whole_at, Whole, call_of};
 
 // The bytes of a step's eleven numbers.
 pub const WIDTH: usize = 44;
@@ -22,37 +22,85 @@ pub struct Row {
     pub numbers: u32,
 }
 
-// A number as a wider one.
-pub fn wide(x: u32) -> usize
-    ensures value { result ≡ x }
-    ensures upper_bound { result < 4294967296 }
-{
-    x as usize
+// A call that changes lent memory, or one that changes none.
+#[derive(Clone, Copy)]
+pub enum Call {
+    Input,
+    Send,
+    FlushAck,
+    Flush,
+    Update,
+    Look(Look),
 }
 
-// A byte as a wider number.
-fn wide8(x: u8) -> u32
-    ensures { (result ≡ x) × (result < 256) }
-{
-    x as u32
+// A call that changes no lent memory: a block made anew, what looks at lent memory, the setters, all getters at once, and the header helpers.
+#[derive(Clone, Copy)]
+pub enum Look {
+    New,
+    Recv,
+    Peeksize,
+    MoveBuf,
+    SetWndsize,
+    Check,
+    SetMtu,
+    SetInterval,
+    SetNodelay,
+    SetRxMinrto,
+    SetFastResend,
+    SetMaximumResendTimes,
+    InputConv,
+    SetConv,
+    Get,
+    GetConv,
+    PutConv,
+    GetSn,
 }
 
-// The number of four bytes, the low one first.
-fn join(b0: u8, b1: u8, b2: u8, b3: u8) -> u32
-    ensures { result ≡ number (b0 ∷ b1 ∷ b2 ∷ b3 ∷ []) }
-{
-    wide8(b0) + 256 * (wide8(b1) + 256 * (wide8(b2) + 256 * wide8(b3)))
+impl Row {
+    // The call that the code names, if it names one.
+    #[tactic(auto, unfolding(crate::specs::Rows::call_of, serial::specs::Branch::pick))]
+    pub fn call(self) -> Option<Call>
+        ensures { result ≡ call_of self.code }
+    {
+        match self.code {
+            0 => Some(Call::Input),
+            1 => Some(Call::Send),
+            2 => Some(Call::FlushAck),
+            3 => Some(Call::Flush),
+            4 => Some(Call::Update),
+            5 => Some(Call::Look(Look::New)),
+            6 => Some(Call::Look(Look::Recv)),
+            7 => Some(Call::Look(Look::Peeksize)),
+            8 => Some(Call::Look(Look::MoveBuf)),
+            9 => Some(Call::Look(Look::SetWndsize)),
+            10 => Some(Call::Look(Look::Check)),
+            11 => Some(Call::Look(Look::SetMtu)),
+            12 => Some(Call::Look(Look::SetInterval)),
+            13 => Some(Call::Look(Look::SetNodelay)),
+            14 => Some(Call::Look(Look::SetRxMinrto)),
+            15 => Some(Call::Look(Look::SetFastResend)),
+            16 => Some(Call::Look(Look::SetMaximumResendTimes)),
+            17 => Some(Call::Look(Look::InputConv)),
+            18 => Some(Call::Look(Look::SetConv)),
+            19 => Some(Call::Look(Look::Get)),
+            20 => Some(Call::Look(Look::GetConv)),
+            21 => Some(Call::Look(Look::PutConv)),
+            22 => Some(Call::Look(Look::GetSn)),
+            _ => None,
+        }
+    }
 }
 
-// The number whose four bytes stand at `at`.
+// The number whose four bytes stand at `at`, the low one first.
 fn word(s: &[u8], at: usize) -> u32
     requires { at + 4 ≤ length s.now }
     ensures { result ≡ le_at 4 s.now at }
 {
-    join(s[at], s[at + 1], s[at + 2], s[at + 3])
+    u32::from_le_bytes([s[at], s[at + 1], s[at + 2], s[at + 3]])
 }
 
 // The eleven numbers at `at`.
+#[tactic(auto, unfolding(crate::specs::Rows::row_at))]
 pub fn row_at(s: &[u8], at: usize) -> Row
     requires { at + 44 ≤ length s.now }
     ensures { result ≡ row_at s.now at }
@@ -83,5 +131,5 @@ pub fn whole(s: &[u8], at: usize) -> bool
         return false;
     }
     let row = row_at(s, at);
-    wide(row.bytes) <= left - WIDTH
+    row.bytes as usize <= left - WIDTH
 }

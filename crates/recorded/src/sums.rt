@@ -1,61 +1,17 @@
-// The bytes that are sent, and the sums by which a step holds what comes out.
-ghost use Rattle.std.specs.Prelude.{◌≡◌, length};
-ghost use Rattle.recorded.specs.Sums.{sum_of, rising};
-
-// A number as a wider one.
-fn wide8(x: u8) -> u32
-    ensures { result ≡ x }
-{
-    x as u32
-}
-
-pub fn wide16(x: u16) -> u32
-    ensures { result ≡ x }
-{
-    x as u32
-}
+// The bytes that are sent, buffers to be lent, and the sums by which a step holds what comes out.
+ghost use Rattle.std.specs.Prelude.{◌≡◌, ℕ, map, length, replicate};
+ghost use Rattle.recorded.specs.Sums.{sum_of, rising, Wide};
 
 // The sum of number * (index + 1), modulo 2^32.
-pub fn sum_of(numbers: &[u32]) -> u32
-    ensures { result ≡ sum_of numbers.now }
+pub fn sum_of<T: Copy + Into<u32>>(numbers: &[T]) -> u32
+    ensures { (f : T → ℕ) → Wide T.converts f → result ≡ sum_of (map f numbers.now) }
 {
     let mut sum: u32 = 0;
     let mut place: u32 = 0;
-    let mut i = 0;
-    while i < numbers.len() {
-        place = serial::add(place, 1);
-        sum = serial::add(sum, serial::mul(numbers[i], place));
-        i += 1;
-    }
-    sum
-}
-
-// The same over bytes.
-pub fn sum_of_bytes(numbers: &[u8]) -> u32
-    ensures { result ≡ sum_of numbers.now }
-{
-    let mut sum: u32 = 0;
-    let mut place: u32 = 0;
-    let mut i = 0;
-    while i < numbers.len() {
-        place = serial::add(place, 1);
-        sum = serial::add(sum, serial::mul(wide8(numbers[i]), place));
-        i += 1;
-    }
-    sum
-}
-
-// The same over the lengths of datagrams.
-pub fn sum_of_lengths(numbers: &[u16]) -> u32
-    ensures { result ≡ sum_of numbers.now }
-{
-    let mut sum: u32 = 0;
-    let mut place: u32 = 0;
-    let mut i = 0;
-    while i < numbers.len() {
-        place = serial::add(place, 1);
-        sum = serial::add(sum, serial::mul(wide16(numbers[i]), place));
-        i += 1;
+    for x in numbers {
+        let n: u32 = (*x).into();
+        place = place.wrapping_add(1);
+        sum = sum.wrapping_add(n.wrapping_mul(place));
     }
     sum
 }
@@ -64,11 +20,17 @@ pub fn sum_of_lengths(numbers: &[u16]) -> u32
 pub fn fill(bytes: &mut [u8], first: u8)
     ensures { bytes.new ≡ rising first (length bytes.old) }
 {
-    let mut byte = first;
-    let mut i = 0;
-    while i < bytes.len() {
-        bytes[i] = byte;
-        byte = std::num::wrapping_add_u8(byte, 7);
-        i += 1;
+    let mut next = first;
+    for byte in bytes.iter_mut() {
+        *byte = next;
+        next = next.wrapping_add(7);
     }
+}
+
+// A buffer that holds x all over. A call of its own, since a long array that stands in a proof is a list of as many terms.
+pub fn filled<T: Copy, const N: usize>(x: T) -> [T; N]
+    ensures value { result ≡ replicate N x }
+    ensures len { N ≡ length result }
+{
+    [x; N]
 }

@@ -1,48 +1,27 @@
 -- A step's verdict, and the loop over the recording: the tally of the whole is the tally from here. Assumes nothing.
-use Prim.Native.Nat.{ℕ, zero, suc, ◌+◌, ◌-◌, ◌/◌, ◌^◌, ◌≤◌}
+use Prim.Native.Nat.{ℕ, zero, suc, ◌+◌, ◌-◌, ◌≤◌}
 use native.Mathlib.Omega.{arith}
 use mathlib.Core.Path.{◌≡◌, refl, sym, ap, ◌∙◌}
 use mathlib.Core.Bool.{Bool, true, false}
-use mathlib.Core.List.{List, [], ◌∷◌}
+use mathlib.Core.List.{List}
 use lib.ListN.{length, take, drop}
-use lib.Dec.{eqb}
-use borrow.Author.Tests.{eq-eqb, ne_eqb}
 use Rattle.serial.specs.Branch.{pick, pick_true, pick-false}
-use Rattle.block.proofs.Together.{goes as on, stops}
 use Rattle.ring.specs.Lists.{Lists}
 use Rattle.block.specs.declared.Kcp.{Kcp}
 use Rattle.history.specs.Calls.{Memory}
 use Rattle.recorded.specs.declared.rows.Row.{Row}
 use Rattle.recorded.specs.declared.answers.Answer.{Answer}
 use Rattle.replay.specs.declared.judge.Tally.{Tally}
-use Rattle.recorded.specs.Sums.{sum_of, bit, low32}
+use Rattle.recorded.specs.Sums.{sum_of}
 use Rattle.recorded.specs.Rows.{row_at, next_at, handed_at, whole_at, Whole}
 use Rattle.recorded.specs.declared.looks.Made.{Made}
 use Rattle.recorded.specs.Looks.{made}
-use Rattle.recorded.specs.Calls.{Played, memory_of, play_of}
+use Rattle.recorded.specs.declared.memory.LentMemory.{LentMemory}
+use Rattle.recorded.specs.Memory.{memory_of}
+use Rattle.recorded.specs.Calls.{Played, play_of}
 use Rattle.replay.specs.Judge.{held_in, numbers_of, same, agrees, agreed, counted, none, judged_from, judged}
 
--- ---- the numbers
-
-pub numbers_are : (k : Kcp) (held : ℕ) {dead ssthresh snd_wnd rcv_wnd rmt_wnd cwnd nodelay updated low high nocwnd stream waits : ℕ}
-    → dead ≡ bit k.sender.dead
-    → ssthresh ≡ k.congestion.ssthresh
-    → snd_wnd ≡ k.congestion.snd_wnd
-    → rcv_wnd ≡ k.receiver.rcv_wnd
-    → rmt_wnd ≡ k.congestion.rmt_wnd
-    → cwnd ≡ k.congestion.cwnd
-    → nodelay ≡ bit k.settings.nodelay
-    → updated ≡ bit k.clock.updated
-    → low ≡ low32 k.congestion.incr
-    → high ≡ k.congestion.incr / 2 ^ 32
-    → nocwnd ≡ bit k.settings.nocwnd
-    → stream ≡ bit k.settings.stream
-    → waits ≡ bit k.settings.input_conv
-    → ◌≡◌ {A = List ℕ}
-    (k.settings.conv ∷ k.settings.mtu ∷ k.settings.mss ∷ dead ∷ k.sender.snd_una ∷ k.sender.snd_nxt ∷ k.receiver.rcv_nxt ∷ ssthresh ∷ k.estimator.rttval ∷ k.estimator.srtt ∷ k.estimator.rto ∷ k.estimator.minrto ∷ snd_wnd ∷ rcv_wnd ∷ rmt_wnd ∷ cwnd ∷ k.probe.bits ∷ k.clock.current ∷ k.clock.interval ∷ k.clock.ts_flush ∷ k.sender.xmit ∷ nodelay ∷ updated ∷ k.probe.ts_probe ∷ k.probe.probe_wait ∷ k.settings.dead_link ∷ low ∷ high ∷ k.settings.fastresend ∷ k.settings.fastlimit ∷ nocwnd ∷ stream ∷ waits ∷ k.sender.ring.unsent ∷ k.receiver.ring.queued ∷ k.sender.ring.flying ∷ held ∷ k.acklist.acks ∷ k.acklist.waiting ∷ [])
-    (numbers_of k held)
-unfolding numbers_of
-numbers_are k held h0 h1 h2 h3 h4 h5 h6 h7 h8 h9 h10 h11 h12 = rw (h0, h1, h2, h3, h4, h5, h6, h7, h8, h9, h10, h11, h12)
+-- ---- the verdict
 
 pub verdict : (a : Answer) (k : Kcp) (l : Lists) (r : Row) {h : ℕ} → h ≡ held_in k l → {ns : List ℕ} → ns ≡ numbers_of k h → {n : ℕ} → n ≡ sum_of ns
     → {t : Bool} → t ≡ same a n r → t ≡ agrees a k l r
@@ -115,32 +94,6 @@ module _ (s : List ℕ) where
         rw (k, j, i, x, g, f) (goes_from at m t first here.fuel here.enough here.same here.few here.fewer (sym e ∙ h) w)
 
 -- the loop's first block is the one that it is handed
-pub from_block : (s rr rm sr sm a w : List ℕ) {k : Kcp} {x : Made} {u : Answer} → x ≡ made k u → {t : Tally}
-    → t ≡ judged s (memory_of x.block rr rm sr sm a w) → t ≡ judged s (memory_of k rr rm sr sm a w)
-from_block s rr rm sr sm a w e f = f ∙ ap (λ (x : Made). judged s (memory_of x.block rr rm sr sm a w)) e
-
--- ---- the five numbers, one by one
-
-module _ (a : Answer) (n : ℕ) (r : Row) where
-  pub differs : (a.refusal ≡ r.refusal → ⊥) → false ≡ same a n r
-  unfolding same
-  differs h = stops _ (ne_eqb _ _ h)
-
-  module _ (refusals : a.refusal ≡ r.refusal) {v : ℕ} (first : v ≡ r.first) where
-    pub differs-first : (a.first ≡ v → ⊥) → false ≡ same a n r
-    unfolding same
-    differs-first h = stops _ (ne_eqb _ _ (λ x. h (x ∙ sym first))) ∙ on _ (eq-eqb _ _ refusals)
-
-    module _ (firsts : a.first ≡ v) {w : ℕ} (second : w ≡ r.second) where
-      pub differs-second : (a.second ≡ w → ⊥) → false ≡ same a n r
-      unfolding same
-      differs-second h = stops _ (ne_eqb _ _ (λ x. h (x ∙ sym second))) ∙ on _ (eq-eqb _ _ (firsts ∙ first)) ∙ on _ (eq-eqb _ _ refusals)
-
-      module _ (seconds : a.second ≡ w) where
-        pub differs-sum : (a.sum ≡ r.sum → ⊥) → false ≡ same a n r
-        unfolding same
-        differs-sum h = stops _ (ne_eqb _ _ h) ∙ on _ (eq-eqb _ _ (seconds ∙ second)) ∙ on _ (eq-eqb _ _ (firsts ∙ first)) ∙ on _ (eq-eqb _ _ refusals)
-
-        pub same_numbers : a.sum ≡ r.sum → eqb n r.numbers ≡ same a n r
-        unfolding same
-        same_numbers h = on _ (eq-eqb _ _ h) ∙ on _ (eq-eqb _ _ (seconds ∙ second)) ∙ on _ (eq-eqb _ _ (firsts ∙ first)) ∙ on _ (eq-eqb _ _ refusals)
+pub from_block : (s : List ℕ) (l : LentMemory) {k : Kcp} {x : Made} {u : Answer} → x ≡ made k u → {t : Tally}
+    → t ≡ judged s (memory_of x.block l) → t ≡ judged s (memory_of k l)
+from_block s l e f = f ∙ ap (λ (x : Made). judged s (memory_of x.block l)) e

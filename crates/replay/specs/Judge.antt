@@ -1,6 +1,7 @@
 -- The judge: each step of the recording is made from what the one before left, and its answer and the block's numbers afterwards are held to what the Rust
 -- gave. Assumes nothing.
-use Rattle.std.specs.Prelude.{ℕ, zero, suc, ◌+◌, ◌/◌, ◌^◌, Bool, ◌&&◌, List, [], ◌∷◌, eqb, length}
+use Rattle.std.specs.Prelude.{ℕ, zero, suc, ◌+◌, ◌/◌, ◌^◌, Bool, ◌&&◌, List, [], ◌∷◌, eqb, length, Some, None}
+use Rattle.std.specs.Option.{option_or}
 use Rattle.serial.specs.Branch.{pick}
 use Rattle.ring.specs.Lists.{Lists}
 use Rattle.ring.specs.Counting.{count}
@@ -33,6 +34,10 @@ numbers_of k held =
 
 -- ---- a step
 
+-- what the Rust answered
+abbrev pub answer_of : Row → Answer
+answer_of r = record { refusal = r.refusal; first = r.first; second = r.second; sum = r.sum }
+
 -- all five numbers of the Rust's are the same
 unfoldable pub same : Answer → ℕ → Row → Bool
 same a numbers r =
@@ -49,13 +54,13 @@ unfoldable pub counted : Tally → Bool → Tally
 counted t ok = record {
   steps = t.steps + 1;
   agreed = pick ok (t.agreed + 1) t.agreed;
-  first = pick ok t.first (pick (eqb t.first 0) (t.steps + 1) t.first);
+  first = pick ok t.first (option_or t.first (Some (t.steps + 1)));
 }
 
 -- ---- the recording
 
 abbrev pub none : Tally
-none = record { steps = 0; agreed = 0; first = 0 }
+none = record { steps = 0; agreed = 0; first = None }
 
 -- the steps from `at` on while whole ones stand there, with this memory and this tally; each takes one of `fuel`
 unfoldable pub judged_from : List ℕ → ℕ → ℕ → Memory → Tally → Tally

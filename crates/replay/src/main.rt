@@ -4,7 +4,7 @@
 
 mod judge; // the comparison, and the run
 
-ghost use Rattle.std.specs.Prelude.{◌≡◌, ◌≤◌, length, IfOk};
+ghost use Rattle.std.specs.Prelude.{◌≤◌, length, IfOk};
 
 use block::Kcp;
 use block::acklist::AckList;
@@ -16,18 +16,21 @@ use block::sender::Sender;
 use block::settings::Settings;
 use estimator::Estimator;
 use judge::{Tally, run};
+use recorded::memory::LentMemory;
+use recorded::sums::filled;
 use std::io::{self, Read};
 
 // The tally in words.
 fn write_tally(rt: &impl Print, tally: Tally) -> io::Result<()> {
     println!(rt; "{} steps, {} agree", tally.steps, tally.agreed)?;
-    if tally.first == 0 {
-        return println!(rt; "first that does not: none");
+    match tally.first {
+        None => println!(rt; "first that does not: none"),
+        Some(first) => println!(rt; "first that does not: {first}"),
     }
-    println!(rt; "first that does not: {}", tally.first)
 }
 
-// Reads what is to come, as far as buf holds it, and answers how many bytes. Each read but the last gives a byte at least.
+// Reads what is to come, as far as buf holds it, and answers how many bytes. Each read but the last gives a byte at least. A loop by hand, since
+// `read_to_end` fills a Vec, which the project has none of, and `read_exact` fails at an early end.
 fn read_full(rt: &impl Input, buf: &mut [u8]) -> io::Result<usize>
     ensures { IfOk result (λ n. n ≤ length buf.new) }
 {
@@ -41,37 +44,6 @@ fn read_full(rt: &impl Input, buf: &mut [u8]) -> io::Result<usize>
         n += more;
     }
     Ok(n)
-}
-
-// The payloads of 1,024 slots, and the smaller arrays. Each contract gives the length alone, which lending the array needs.
-fn room() -> [u8; 1511424]
-    ensures { 1511424 ≡ length result }
-{
-    [0; 1511424]
-}
-
-fn recording() -> [u8; 1048576]
-    ensures { 1048576 ≡ length result }
-{
-    [0; 1048576]
-}
-
-fn numbers_1024() -> [u32; 1024]
-    ensures { 1024 ≡ length result }
-{
-    [0; 1024]
-}
-
-fn numbers_9216() -> [u32; 9216]
-    ensures { 9216 ≡ length result }
-{
-    [0; 9216]
-}
-
-fn numbers_8192() -> [u32; 8192]
-    ensures { 8192 ≡ length result }
-{
-    [0; 8192]
 }
 
 // A block before any step: the recording's first makes one anew.
@@ -88,25 +60,29 @@ fn before() -> Kcp {
     }
 }
 
+// The most bytes of a recording, and the payloads of 1,024 slots.
+const RECORDING: usize = 1048576;
+
+const ROOM: usize = 1511424;
+
 // R = 1,024, P = 1,024, A = 4,096.
 fn main(rt: HostRuntime) -> io::Result<()> {
-    let mut recording = recording();
+    let mut recording: [u8; RECORDING] = filled(0);
     let read = read_full(&rt, &mut recording)?;
-    let mut rcv_records = numbers_1024();
-    let mut rcv_room = room();
-    let mut snd_records = numbers_9216();
-    let mut snd_room = room();
-    let mut acks = numbers_8192();
+    let mut rcv_records: [u32; 1024] = filled(0);
+    let mut rcv_room: [u8; ROOM] = filled(0);
+    let mut snd_records: [u32; 9216] = filled(0);
+    let mut snd_room: [u8; ROOM] = filled(0);
+    let mut acks: [u32; 8192] = filled(0);
     let mut waiting = [0u8; 1500];
-    let tally = run(
-        before(),
-        &recording[..read],
-        &mut rcv_records,
-        &mut rcv_room,
-        &mut snd_records,
-        &mut snd_room,
-        &mut acks,
-        &mut waiting,
-    );
+    let mut lent = LentMemory {
+        rcv_records: &mut rcv_records,
+        rcv_room: &mut rcv_room,
+        snd_records: &mut snd_records,
+        snd_room: &mut snd_room,
+        acks: &mut acks,
+        waiting: &mut waiting,
+    };
+    let tally = run(before(), &recording[..read], &mut lent);
     write_tally(&rt, tally)
 }

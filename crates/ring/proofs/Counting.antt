@@ -3,8 +3,12 @@ use mathlib.Core.Path.{◌≡◌, refl, sym, ap, ◌∙◌}
 use Prim.Native.Nat.{ℕ, ◌+◌, ◌-◌, ◌≤◌, ◌<◌}
 use native.Mathlib.Omega.{arith}
 use native.Mathlib.Decide.{dec_le}
+use mathlib.Core.Bool.{Bool, true, false, cond}
 use mathlib.Core.List.{List}
-use lib.ListN.{length, get_or}
+use lib.Dec.{leb}
+use lib.ListN.{length, get_or, take, drop, length-drop}
+use lib.Seq.{get_or-take, get_or-drop, length-take-le}
+use mir.Val.{bool_byte}
 use borrow.Author.Tests.{le-leb, lt-leb}
 use Rattle.ring.specs.Places.{place, summed}
 use Rattle.ring.specs.Counting.{at_least, count_in, word_at, count}
@@ -34,22 +38,38 @@ least_le bound x = by-least bound x (λ h e. omega arith) (λ h e. omega arith)
 
 -- ---- a run of places, and one place more
 
-module _ (bound : ℕ) (l : List ℕ) (from : ℕ) where
-  pub in_none : count_in bound l from (from - from) ≡ 0
+-- as the code has it: a test as a number
+pub by_bool : (bound x : ℕ) → bool_byte (leb bound x) ≡ at_least bound x
+unfolding at_least
+by_bool bound x = elim (leb bound x) as (λ (t : Bool). bool_byte t ≡ cond t 1 0) [ true ↦ refl | false ↦ refl ]
+
+module _ (bound : ℕ) (l : List ℕ) where
+  pub in_none : count_in bound l 0 0 ≡ 0
   unfolding count_in summed
-  in_none = let e : from - from ≡ 0 = omega arith in ap (summed (λ (i : ℕ). at_least bound (get_or l i 0)) from) e
+  in_none = refl
 
-  pub in_more : (i : ℕ) → from ≤ i → count_in bound l from (i + 1 - from) ≡ count_in bound l from (i - from) + at_least bound (get_or l i 0)
+  pub in_more : (i : ℕ) → count_in bound l 0 (i + 1) ≡ count_in bound l 0 i + at_least bound (get_or l i 0)
   unfolding count_in
-  in_more i h =
-      let e : i + 1 - from ≡ i - from + 1 = omega arith in
-      let q : from + (i - from) ≡ i = omega arith in
+  in_more i =
+      let q : 0 + i ≡ i = omega arith in
       let f : ℕ → ℕ = λ (i : ℕ). at_least bound (get_or l i 0) in
-      ap (summed f from) e ∙ summed-last f from (i - from) ∙ ap (λ (x : ℕ). summed f from (i - from) + f x) q
+      summed-last f 0 i ∙ ap (λ (x : ℕ). summed f 0 i + f x) q
 
+  -- of a part, which is a run of the whole
+  pub in_part : (from n : ℕ) → count_in bound (take n (drop from l)) 0 n ≡ count_in bound l from n
+  unfolding count_in
+  in_part from n =
+      summed_same (λ (i : ℕ). at_least bound (get_or (take n (drop from l)) i 0)) (λ (i : ℕ). at_least bound (get_or l i 0)) 0 from n
+      (λ i j x y z.
+      let q : from + i ≡ j = omega arith in
+      let k : i < n = omega arith in ap (at_least bound) (rw (get_or-take, get_or-drop, q)))
+
+module _ (bound : ℕ) (l : List ℕ) (from : ℕ) where
   pub in_le : (n : ℕ) → count_in bound l from n ≤ n
   unfolding count_in
   in_le n = summed_le (λ (i : ℕ). at_least bound (get_or l i 0)) from n (λ i. least_le bound (get_or l i 0))
+
+pub ruleset of_run = (in_none, in_more, in_le, by_bool, least_le)
 
 -- ---- the indices are one run of places or two
 
@@ -82,17 +102,26 @@ module _ (g : ℕ → ℕ) (p s from n : ℕ) (h : s < p) (k : from + n ≤ p) w
       omega arith
 
 module _ (bound : ℕ) (l : List ℕ) (s from n a : ℕ) (h : s < length l) (k : from + n ≤ length l) (e : a ≡ place (length l) s from) where
-  pub count_one : n ≤ length l - a → count_in bound l a (a + n - a) ≡ count bound l s from n
+  pub count_one : n ≤ length l - a → count_in bound (take (a + n - a) (drop a l)) 0 (length (take (a + n - a) (drop a l))) ≡ count bound l s from n
   unfolding count count_in
   count_one b =
       let z : a + n - a ≡ n = omega arith in
-      rw (z, e) (sym (one-run (λ (i : ℕ). at_least bound (get_or l i 0)) (length l) s from n h k (omega arith)))
+      let m : length (take n (drop a l)) ≡ n = length-take-le n (drop a l) (rw length-drop b) in
+      rw (z, m) (in_part bound l a n ∙ rw e (sym (one-run (λ (i : ℕ). at_least bound (get_or l i 0)) (length l) s from n h k (omega arith))))
 
-  pub count_two : length l - a < n → count_in bound l a (length l - a) + count_in bound l 0 (n - (length l - a) - 0) ≡ count bound l s from n
+  pub count_two : length l - a < n
+      → count_in bound (take (length l - a) (drop a l)) 0 (length (take (length l - a) (drop a l)))
+      + count_in bound (take (n - (length l - a)) l) 0 (length (take (n - (length l - a)) l)) ≡ count bound l s from n
   unfolding count count_in
   count_two b =
-      let z : n - (length l - a) - 0 ≡ n - (length l - a) = omega arith in
-      rw (z, e) (sym (two_runs (λ (i : ℕ). at_least bound (get_or l i 0)) (length l) s from n h k (omega arith)))
+      let m : length (take (length l - a) (drop a l)) ≡ length l - a = length-take-le (length l - a) (drop a l) (rw length-drop (omega arith)) in
+      let w : length (take (n - (length l - a)) l) ≡ n - (length l - a) = length-take-le (n - (length l - a)) l (omega arith) in
+      let x = in_part bound l a (length l - a) in
+      let y = in_part bound l 0 (n - (length l - a)) in
+      let r = two_runs (λ (i : ℕ). at_least bound (get_or l i 0)) (length l) s from n h k (omega arith) in
+      let q = rw (← e) at r in rw (m, w) (omega (arith, q))
+
+pub ruleset of_runs = (count_one, count_two)
 
 -- ---- what a count says of each index
 

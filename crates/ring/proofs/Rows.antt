@@ -7,9 +7,9 @@ use native.Mathlib.Numerals.{add-one}
 use native.Mathlib.Decide.{dec_lt}
 use mathlib.Core.List.{List, [], ◌∷◌, ◌++◌, append_assoc, append-nil}
 use lib.ListN.{length, take, drop, get_or, set, length-append, length-drop, take-append-drop, drop_of_length-le}
-use lib.Seq.{set_split, append_snoc, take_at, drop_at, take-append-le, drop-append-le, drop-append-add, drop-drop, take-add, length-take-le, take-length, get_or-take, get_or-drop, paste, paste-suc, take_all, drop-length, take-take}
+use lib.Seq.{set_split, append_snoc, take_at, drop_at, take-append-le, drop-append-le, drop-append-add, drop-drop, take-add, length-take-le, take-length, get_or-take, get_or-drop, take-take}
 use borrow.Author.Rules.{part_to_end}
-use Rattle.ring.proofs.Sequences.{mixed, mixed_more, drop-take}
+use Rattle.ring.proofs.Sequences.{drop-take}
 use Rattle.ring.specs.Records.{put, part, put_slot, part_slot, number_at}
 
 pub put-length : (l : List ℕ) (at : ℕ) (x : List ℕ) → at + length x ≤ length l → length (put l at x) ≡ length l
@@ -128,34 +128,12 @@ module _ (w : ℕ) (l : List ℕ) (s k : ℕ) (x : List ℕ) (inside : k + lengt
 pub part_slot-number : (w : ℕ) (l : List ℕ) (s n j : ℕ) → j < n → get_or (part_slot w l s 0 n) j 0 ≡ number_at w l s j
 part_slot-number w l s n j h = let e : s * w + 0 + j ≡ s * w + j = omega arith in part_at l (s * w + 0) n j h ∙ ap (λ (i : ℕ). get_or l i 0) e
 
--- ---- the loops that copy
+-- ---- what copies leave
 
 -- one number
 pub put_one : (l : List ℕ) (at x : ℕ) → at < length l → set l at x ≡ put l at (x ∷ [])
 unfolding put
 put_one l at x h = rw (set_split l at x h, append_snoc, add-one)
-
--- i of the numbers are written
-pub put-turn : (l m x : List ℕ) (at i : ℕ) → at + length x ≤ length l → i < length x → m ≡ paste l at x i → set m (at + i) (get_or x i 0) ≡ paste l at x (i + 1)
-put-turn l m x at i h k e = rw (e, add-one) (paste-suc l at x i 0 (omega arith) k)
-
-pub put-end : (l m x : List ℕ) (at : ℕ) → m ≡ paste l at x (length x) → m ≡ put l at x
-unfolding put
-put-end l m x at e = rw (take-length x) at e
-
--- i of the numbers are read
-module _ (l d m : List ℕ) (at i : ℕ) (h : at + length d ≤ length l) where
-  pub get-turn : i < length d → m ≡ mixed (part l at (length d)) d i → set m i (get_or l (at + i) 0) ≡ mixed (part l at (length d)) d (i + 1)
-  get-turn k e =
-      let n = part_length l at (length d) h in
-      rw (← part_at l at (length d) i k) (mixed_more (part l at (length d)) d m i (omega arith) k e)
-
-  pub get-end : i ≡ length d → m ≡ mixed (part l at (length d)) d i → m ≡ part l at (length d)
-  unfolding mixed
-  get-end k e =
-      let n = part_length l at (length d) h in
-      let f = rw (k, drop-length, append-nil) at e in
-      f ∙ take_all (length d) (part l at (length d)) (omega arith)
 
 -- what a copy of src to the start of the part from `at` on leaves of the whole
 pub by_copy : (room src y : List ℕ) (at : ℕ) → at + length src ≤ length room
@@ -170,12 +148,16 @@ by_copy room src y at h e =
 -- the same by way of an array: z is what it held, and t what it holds after the first copy
 pub by_way : (room src : List ℕ) (n : ℕ) (z t y : List ℕ) (at : ℕ) → length src ≡ n → at + n ≤ length room
     → t ≡ take (length src) src ++ drop (length src) z
-    → y ≡ take (length (take (n - 0) t)) (take (n - 0) t) ++ drop (length (take (n - 0) t)) (take (length room - at) (drop at room))
+    → y ≡ take (length (take n t)) (take n t) ++ drop (length (take n t)) (take (length room - at) (drop at room))
     → take at room ++ (y ++ drop (length room - at) (drop at room)) ≡ put room at src
 by_way room src n z t y at m h e d =
-    let q : n - 0 ≡ length src = omega arith in
     let f : take (length src) t ≡ src = ap (λ (x : List ℕ). take (length src) x) (rw take-length at e) ∙ take_at src _ (length src) refl in
-    by_copy room src y at (omega arith) (rw (q, f) at d)
+    by_copy room src y at (omega arith) (rw (← m, f) at d)
+
+-- x copied over the k numbers from `at` on
+pub put_over : (l x y : List ℕ) (at k : ℕ) → y ≡ x → k ≡ length x → take at l ++ (y ++ drop k (drop at l)) ≡ put l at x
+unfolding put
+put_over l x y at k e n = rw (e, n, drop-drop, append_assoc)
 
 -- the n numbers that a range gives
 pub part_range : (l : List ℕ) (at n : ℕ) → take (at + n - at) (drop at l) ≡ part l (at + 0) n

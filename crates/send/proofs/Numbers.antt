@@ -1,6 +1,7 @@
 -- The numbers of a send, as the code computes them and as the rule says them. Assumes nothing.
-use Prim.Native.Nat.{ℕ, ◌+◌, ◌-◌, ◌/◌, ◌≤◌, ◌<◌, min}
-use native.Mathlib.Nat.{add-div_right}
+use Prim.Native.Nat.{ℕ, ◌+◌, ◌-◌, ◌*◌, ◌/◌, ◌%◌, ◌≤◌, ◌<◌, min}
+use Rattle.std.proofs.Math.Nat.{add-zero, div-eq_of_lt, mod-eq_of_lt, mul-add-div_right}
+use Rattle.std.proofs.lemmas.Grind.{div_ceil_times}
 use native.Mathlib.Omega.{arith}
 use native.Mathlib.Decide.{dec_lt}
 use mathlib.Core.Path.{◌≡◌, refl, sym, ap, ◌∙◌}
@@ -63,17 +64,31 @@ module _ (mss : ℕ) (stream : Bool) (queued last n : ℕ) where
 
 -- ---- `pieces`
 
-module _ (mss : ℕ) (stream : Bool) where
-  pub pieces_none : {n : ℕ} → n ≡ 0 → (stream ≡ true → pieces mss stream n ≡ 0) × (stream ≡ false → pieces mss stream n ≡ 1)
-  unfolding pieces
-  pieces_none {n} z = (λ e. pick_true _ _ (eq-eqb n 0 z) ∙ pick_true _ _ e, λ e. pick_true _ _ (eq-eqb n 0 z) ∙ pick-false _ _ e)
+-- the quotient rounded up, as the rule says it and as std does
+rounded-up : (n : ℕ) {m : ℕ} → 0 < m → (n + (m - 1)) / m ≡ n / m + min 1 (n % m)
+rounded-up n {m} pos =
+    let c = n / m + min 1 (n % m) in
+    let h = div_ceil_times n m pos in
+    let e : n + (m - 1) ≡ c * m + (n + (m - 1) - c * m) = omega (arith, h.0, h.1) in
+    let z : (n + (m - 1) - c * m) / m ≡ 0 = div-eq_of_lt (omega (arith, h.0, h.1)) in
+    ap (λ (k : ℕ). k / m) e ∙ mul-add-div_right pos c (n + (m - 1) - c * m) ∙ rw z (add-zero c)
 
-  -- the last piece counted apart
-  pub pieces-some : (n : ℕ) → 0 < mss → 0 < n → pieces mss stream n ≡ (n - 1) / mss + 1
+module _ (mss : ℕ) (stream : Bool) (n : ℕ) (pos : 0 < mss) where
+  pub pieces-some : 0 < n → n / mss + min 1 (n % mss) ≡ pieces mss stream n
   unfolding pieces
-  pieces-some n pos h =
-      let e : n + (mss - 1) ≡ n - 1 + mss = omega arith in
-      pick-false _ _ (ne_eqb n 0 (λ z. omega arith)) ∙ ap (λ (k : ℕ). k / mss) e ∙ add-div_right (n - 1) pos
+  pieces-some h = sym (pick-false _ _ (ne_eqb n 0 (λ z. omega arith)) ∙ rounded-up n pos)
+
+  pub pieces_none : n ≡ 0 → stream ≡ true → n / mss + min 1 (n % mss) ≡ pieces mss stream n
+  unfolding pieces
+  pieces_none z e =
+      let q : n / mss ≡ 0 = div-eq_of_lt (omega arith) in
+      let r : n % mss ≡ 0 = mod-eq_of_lt (omega arith) ∙ z in
+      let s : n / mss + min 1 (n % mss) ≡ 0 = omega (arith, q, r) in
+      s ∙ sym (pick_true _ _ (eq-eqb n 0 z) ∙ pick_true _ _ e)
+
+  pub pieces_one : n ≡ 0 → stream ≡ false → 1 ≡ pieces mss stream n
+  unfolding pieces
+  pieces_one z e = sym (pick_true _ _ (eq-eqb n 0 z) ∙ pick-false _ _ e)
 
 -- ---- 8, 12, or neither
 

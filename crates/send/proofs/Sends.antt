@@ -1,4 +1,5 @@
 -- What a send does by cases, what it keeps, and what the code asks and leaves. Assumes nothing.
+use Rattle.std.specs.Prelude.{Ok, Err}
 use Prim.Native.Nat.{ℕ, ◌+◌, ◌-◌, ◌/◌, ◌≤◌, ◌<◌}
 use native.Mathlib.Omega.{arith}
 use mathlib.Core.Path.{◌≡◌, refl, sym, ap, ◌∙◌, subst}
@@ -14,7 +15,6 @@ use Rattle.snd_ring.specs.Steps.{filled}
 use Rattle.snd_ring.proofs.Splits.{marks-length}
 use Rattle.snd_ring.proofs.Fills.{fill-flight, fill-sound}
 use Rattle.block.specs.declared.sender.Sender.{Sender}
-use Rattle.block.specs.declared.refusal.Bytes.TheVariants.{Are, Refused}
 use Rattle.block.specs.declared.refusal.Refusal.TheVariants.{UserBufTooBig, SendPoolFull}
 use Rattle.block.specs.Parts.{with_snd_ring}
 use Rattle.sending.specs.Rules.{Segment}
@@ -143,7 +143,7 @@ module _ (mss : ℕ) (stream : Bool) (bytes : List ℕ) (s : Sender) (a b : List
   new_is : k ≡ new mss stream bytes s m
   new_is = e ∙ ap (λ (i : ℕ). needed mss stream s.ring.unsent i (length bytes)) (l b)
 
-  pub sent_big : 128 ≤ k → (x : Sent) (m' : Store) → x ≡ record { sender = s; answer = Refused UserBufTooBig } → m' ≡ filled_at mss stream bytes s m → SentAs mss stream bytes s m x m'
+  pub sent_big : 128 ≤ k → (x : Sent) (m' : Store) → x ≡ record { sender = s; answer = Err UserBufTooBig } → m' ≡ filled_at mss stream bytes s m → SentAs mss stream bytes s m x m'
   unfolding send_at answer_at left_at
   sent_big h x m' d w =
       let v = judged_big mss stream bytes s m (rw new_is at h) in
@@ -154,7 +154,7 @@ module _ (mss : ℕ) (stream : Bool) (bytes : List ℕ) (s : Sender) (a b : List
     free_is : n - u ≡ free s m
     free_is = let h = marks-length 8 (lists a b) in omega arith
 
-    pub sent-full : n - u < k → (x : Sent) → x ≡ record { sender = s; answer = Refused SendPoolFull } → SentAs mss stream bytes s m x m
+    pub sent-full : n - u < k → (x : Sent) → x ≡ record { sender = s; answer = Err SendPoolFull } → SentAs mss stream bytes s m x m
     unfolding send_at answer_at left_at
     sent-full h x d =
         let v = judged-full mss stream bytes s m (rw new_is at few) (rw (new_is, free_is) at h) in
@@ -186,7 +186,7 @@ module _ (mss : ℕ) (stream : Bool) (bytes : List ℕ) (s : Sender) (a b : List
             (g.sound.shaped, (omega arith, (small, omega arith)))
 
         pub sent_all : (z : Laid) → z ≡ queued_at (cut mss stream k (drop from bytes)) (laid r (store_of 8 (lists a' b'))) → (s' : Sender) → s' ≡ with_snd_ring s z.ring
-            → SentAs mss stream bytes s m (record { sender = s'; answer = Are (length bytes) }) z.store
+            → SentAs mss stream bytes s m (record { sender = s'; answer = Ok (length bytes) }) z.store
         unfolding send_at answer_at left_at sent_at
         sent_all z g s' d =
             let v = judged-fits mss stream bytes s m (rw new_is at few) enough in

@@ -1,9 +1,10 @@
 -- A send that is not refused loses no byte and adds none: what waits afterwards is what waited, and the bytes behind it, in either mode.
 -- Assumes nothing.
-use Prim.Native.Nat.{ℕ, zero, suc, ◌-◌, ◌*◌, ◌/◌, ◌≤◌, ◌<◌}
-use native.Mathlib.Nat.{suc-mul, zero-mul, lt-div-mul-add}
-use native.Mathlib.Numerals.{add-one}
+use Rattle.std.specs.Prelude.{Ok}
+use Prim.Native.Nat.{ℕ, zero, suc, ◌-◌, ◌*◌, ◌≤◌, ◌<◌}
+use native.Mathlib.Nat.{suc-mul, zero-mul}
 use native.Mathlib.Omega.{arith}
+use Rattle.std.proofs.lemmas.Grind.{div_ceil_times}
 use native.Mathlib.Decide.{dec_lt}
 use mathlib.Core.Path.{◌≡◌, refl, sym, ap, ◌∙◌}
 use mathlib.Core.Bool.{Bool, true, false}
@@ -11,7 +12,6 @@ use mathlib.Core.List.{List, [], ◌∷◌, ◌++◌, append_assoc, append-nil}
 use lib.ListN.{length, take, drop, get_or, set, length-drop, take-append-drop}
 use Rattle.snd_ring.specs.Store.{Store, Sound}
 use Rattle.block.specs.declared.sender.Sender.{Sender}
-use Rattle.block.specs.declared.refusal.Bytes.TheVariants.{Are}
 use Rattle.sending.specs.Rules.{Segment, Sending}
 use Rattle.sending.specs.Send.{fills, pieces, needed, verdict, fits, waits, cut, last_of, last_size, topped, joining, new, filled, queued, left_by, send}
 use Rattle.transmit.specs.Memory.{seen}
@@ -44,10 +44,7 @@ module _ (mss : ℕ) (stream : Bool) where
     where
       go : Dec (0 < n) → n ≤ pieces mss stream n * mss
       go (yes h) =
-          let e = pieces-some mss stream n pos h in
-          let a = lt-div-mul-add {a = n - 1} pos in
-          let z = suc-mul ((n - 1) / mss) mss in
-          rw (e, add-one) (omega arith)
+          rw (← pieces-some mss stream n pos h) (div_ceil_times n mss pos).0
       go (no h) = omega arith
 
 -- ---- the fill
@@ -91,7 +88,7 @@ module _ (mss : ℕ) (stream : Bool) (bytes : List ℕ) (s : Sending) where
 -- ---- in the memory
 
 pub sent-bytes : (mss : ℕ) (stream : Bool) (bytes : List ℕ) (s : Sender) (m : Store) → Sound 8 s.ring m → 26 ≤ mss → mss ≤ 1476
-    → {n : ℕ} → answer_at mss stream bytes s m ≡ Are n
+    → {n : ℕ} → answer_at mss stream bytes s m ≡ Ok n
     → (n ≡ length bytes) × (bytes_of (seen (send_at mss stream bytes s m).sender (send_at mss stream bytes s m).store).waiting ≡ bytes_of (seen s m).waiting ++ bytes)
 sent-bytes mss stream bytes s m o low small e =
     let a = accepted mss stream bytes s m e in (

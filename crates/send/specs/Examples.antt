@@ -1,5 +1,5 @@
 -- The rule and the memory function of send at closed cases. Assumes nothing.
-use Rattle.std.specs.Prelude.{ℕ, ◌+◌, ◌*◌, true, false, ◌≡◌, refl, List, [], ◌∷◌, ◌++◌, map, replicate}
+use Rattle.std.specs.Prelude.{ℕ, ◌+◌, ◌*◌, true, false, ◌≡◌, refl, List, [], ◌∷◌, ◌++◌, map, replicate, Ok, Err}
 use Rattle.serial.specs.Branch.{pick}
 use Rattle.ring.specs.Counting.{at_least}
 use Rattle.ring.specs.Places.{place, along}
@@ -8,7 +8,6 @@ use Rattle.snd_ring.specs.declared.SndRing.{SndRing}
 use Rattle.snd_ring.specs.Store.{Store, store, cell, seen as seen_along, flight_of, waiting_of}
 use Rattle.snd_ring.specs.Steps.{ring, written, settled, slid_one, slid, closed, closed_ring, filled as filled_in}
 use Rattle.block.specs.declared.sender.Sender.{Sender}
-use Rattle.block.specs.declared.refusal.Bytes.TheVariants.{Are, Refused}
 use Rattle.block.specs.declared.refusal.Refusal.TheVariants.{UserBufTooBig, SendPoolFull}
 use Rattle.sending.specs.Rules.{Segment, Sending}
 use Rattle.sending.specs.Send.{fills, joins, pieces, needed, too_big, pool_full, fits, verdict, waits, cut, last_of, filled, queued, left_by, send}
@@ -78,7 +77,7 @@ two = send_at 2 false (1 ∷ 2 ∷ 3 ∷ []) (side_of (ring 2 0 0 0)) empty
 
 two_is : (two.sender.ring ≡ ring 2 0 0 2) × (two.store.marks ≡ 2 ∷ 8 ∷ 3 ∷ [])
     × (two.store.rows ≡ 0 ∷ 0 ∷ 0 ∷ 0 ∷ 0 ∷ 0 ∷ 0 ∷ 0 ∷ 5 ∷ 5 ∷ 5 ∷ 5 ∷ 5 ∷ 5 ∷ 5 ∷ 5 ∷ 0 ∷ 1 ∷ 0 ∷ 0 ∷ 0 ∷ 0 ∷ 0 ∷ 0 ∷ [])
-    × (answer_at 2 false (1 ∷ 2 ∷ 3 ∷ []) (side_of (ring 2 0 0 0)) empty ≡ Are 3)
+    × (answer_at 2 false (1 ∷ 2 ∷ 3 ∷ []) (side_of (ring 2 0 0 0)) empty ≡ Ok 3)
 unfolding two answer_at send_at left_at verdict_at verdict sent_at filled_at last_length spaced_at queued_at written put place needed joins fills pieces cut pick empty side_of
 two_is = (refl, refl, refl, refl)
 
@@ -90,9 +89,9 @@ two-seen = refl
 -- in stream mode a byte joins the second, and one goes to place 1; two more bytes than that find no slot, and all is as it was; 8 leaves the fill
 three : ((seen (send_at 2 true (4 ∷ 5 ∷ []) two.sender two.store).sender (send_at 2 true (4 ∷ 5 ∷ []) two.sender two.store).store).waiting
     ≡ waits 1 (1 ∷ 2 ∷ []) ∷ waits 0 (3 ∷ 4 ∷ []) ∷ waits 0 (5 ∷ []) ∷ [])
-    × (answer_at 2 true (4 ∷ 5 ∷ 6 ∷ 7 ∷ []) two.sender two.store ≡ Refused SendPoolFull)
+    × (answer_at 2 true (4 ∷ 5 ∷ 6 ∷ 7 ∷ []) two.sender two.store ≡ Err SendPoolFull)
     × ((send_at 2 true (4 ∷ 5 ∷ 6 ∷ 7 ∷ []) two.sender two.store).store.marks ≡ two.store.marks)
-    × (answer_at 2 true (replicate 256 4) two.sender two.store ≡ Refused UserBufTooBig)
+    × (answer_at 2 true (replicate 256 4) two.sender two.store ≡ Err UserBufTooBig)
     × ((send_at 2 true (replicate 256 4) two.sender two.store).store.marks ≡ 3 ∷ 8 ∷ 3 ∷ [])
 unfolding two answer_at seen waiting_of seen_along along cell part send_at left_at verdict_at verdict sent_at filled_at filled_in last_length spaced_at queued_at written put place needed joins fills pieces cut pick empty side_of
 three = (refl, refl, refl, refl, refl)
@@ -114,9 +113,9 @@ unfolding answer_at seen flight_of waiting_of seen_along along cell part send_at
 closes = (refl, refl, refl, refl)
 
 -- two more: 12, and the gap is not closed. Where nothing waits a place behind and the gap are free: two segments fit, and three do not
-gaps : (answer_at 2 false (8 ∷ 9 ∷ 8 ∷ []) full four ≡ Refused SendPoolFull) × ((send_at 2 false (8 ∷ 9 ∷ 8 ∷ []) full four).store.marks ≡ four.marks)
-    × (answer_at 1 false (8 ∷ 9 ∷ []) (side_of (ring 3 3 2 0)) four ≡ Are 2)
+gaps : (answer_at 2 false (8 ∷ 9 ∷ 8 ∷ []) full four ≡ Err SendPoolFull) × ((send_at 2 false (8 ∷ 9 ∷ 8 ∷ []) full four).store.marks ≡ four.marks)
+    × (answer_at 1 false (8 ∷ 9 ∷ []) (side_of (ring 3 3 2 0)) four ≡ Ok 2)
     × ((send_at 1 false (8 ∷ 9 ∷ []) (side_of (ring 3 3 2 0)) four).sender.ring ≡ ring 0 2 2 2)
-    × (answer_at 1 false (8 ∷ 9 ∷ 8 ∷ []) (side_of (ring 3 3 2 0)) four ≡ Refused SendPoolFull)
+    × (answer_at 1 false (8 ∷ 9 ∷ 8 ∷ []) (side_of (ring 3 3 2 0)) four ≡ Err SendPoolFull)
 unfolding answer_at send_at left_at verdict_at verdict sent_at filled_at last_length spaced_at closed_ring closed settled slid slid_one at_least queued_at written put place needed joins fills pieces cut pick four full side_of
 gaps = (refl, refl, refl, refl, refl)

@@ -1,20 +1,19 @@
 -- What a send does to the block's numbers and to the lent memory, every number and byte. The decisions are those of the rule (sending/specs/Send),
 -- asked of the numbers in the ring. Assumes nothing.
-use Rattle.std.specs.Prelude.{ℕ, ◌+◌, ◌-◌, ◌≡◌, Bool, List, [], ◌∷◌, length, take, drop, ltb}
+use Rattle.std.specs.Prelude.{ℕ, ◌+◌, ◌-◌, ◌≡◌, Bool, List, [], ◌∷◌, length, take, drop, ltb, Result, Ok, Err}
 use Rattle.serial.specs.Branch.{pick}
 use Rattle.snd_ring.specs.declared.SndRing.{SndRing}
 use Rattle.snd_ring.specs.Marks.{mark_at}
 use Rattle.snd_ring.specs.Store.{Store, segment}
 use Rattle.snd_ring.specs.Steps.{last, filled, appended_ring, appended, closed_ring, closed}
 use Rattle.block.specs.declared.sender.Sender.{Sender}
-use Rattle.block.specs.declared.refusal.Bytes.{Bytes}
-use Rattle.block.specs.declared.refusal.Bytes.TheVariants.{Are, Refused}
 use Rattle.block.specs.declared.refusal.Refusal.TheVariants.{UserBufTooBig, SendPoolFull}
 use Rattle.block.specs.Parts.{with_snd_ring}
 use Rattle.sending.specs.Rules.{Segment}
 use Rattle.sending.specs.Send.{fills, joins, needed, Verdict, too_big, pool_full, fits, verdict, cut}
 use Rattle.transmit.specs.Memory.{Side, side, frg}
 use Rattle.send.specs.declared.Sent.{Sent}
+use Rattle.block.specs.declared.refusal.Refusal.{Refusal}
 
 -- a ring and its memory
 pub record Laid : Type 0 where
@@ -78,12 +77,12 @@ module _ (mss : ℕ) (stream : Bool) (bytes : List ℕ) (s : Sender) (m : Store)
   send_at = left_at verdict_at
 
   -- "It answers the bytes queued"
-  abbrev pub answer_by : Verdict → Bytes
-  answer_by too_big = Refused UserBufTooBig
-  answer_by pool_full = Refused SendPoolFull
-  answer_by fits = Are (length bytes)
+  abbrev pub answer_by : Verdict → Result ℕ Refusal
+  answer_by too_big = Err UserBufTooBig
+  answer_by pool_full = Err SendPoolFull
+  answer_by fits = Ok (length bytes)
 
-  unfoldable pub answer_at : Bytes
+  unfoldable pub answer_at : Result ℕ Refusal
   answer_at = answer_by verdict_at
 
 -- 01's number and values of each case

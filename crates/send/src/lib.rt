@@ -6,50 +6,43 @@ ghost use Rattle.std.specs.Prelude.{◌≡◌, List, ℕ, ◌+◌, ◌-◌, ◌/
 ghost use Rattle.serial.specs.Branch.{pick};
 ghost use Rattle.ring.specs.Lists.{lists};
 ghost use Rattle.snd_ring.specs.Store.{store_of, Sound, Shaped};
-ghost use Rattle.block.specs.declared.refusal.Bytes.TheVariants.{Refused};
+ghost use Rattle.transmit.specs.Fits.{Lies};
 ghost use Rattle.sending.specs.Send.{fills, joins, pieces, needed, cut};
 ghost use Rattle.send.specs.Memory.{laid, last_length, queued_at, spaced_at, filled_at, SentAs};
 
-use block::refusal::{Bytes, Refusal};
+use block::refusal::Refusal;
 use block::sender::Sender;
+use sending::column::FRG;
 use snd_ring::SndRing;
 
-// The column of a row that has the frg.
-const FRG: usize = 1;
-
 // Whether there is a last queued segment to fill.
+#[tactic(auto, unfolding(sending::specs::Send::fills))]
 fn fills(mss: usize, stream: bool, queued: usize, last: usize) -> bool
     ensures { result ≡ fills mss stream queued last }
 {
-    if !stream {
-        return false;
-    }
-    if queued == 0 {
-        return false;
-    }
-    last < mss
+    stream && queued > 0 && last < mss
 }
 
 // How many of n bytes join the last queued segment.
+#[tactic(auto, unfolding(sending::specs::Send::joins, serial::specs::Branch::pick))]
 fn joins(mss: usize, stream: bool, queued: usize, last: usize, n: usize) -> usize
     ensures { result ≡ joins mss stream queued last n }
 {
     if !fills(mss, stream, queued, last) {
         return 0;
     }
-    let left = mss - last;
-    if n < left { n } else { left }
+    (mss - last).min(n)
 }
 
-// How many new segments n bytes make. The last one is counted apart, so that no sum is over the bytes.
+// How many new segments n bytes make: none in a stream where there are no bytes, and one where the mode is plain.
 fn pieces(mss: usize, stream: bool, n: usize) -> usize
     requires { 0 < mss }
     ensures { result ≡ pieces mss stream n }
 {
-    if n > 0 {
-        return (n - 1) / mss + 1;
+    if n == 0 && !stream {
+        return 1;
     }
-    if stream { 0 } else { 1 }
+    n.div_ceil(mss)
 }
 
 // How many new segments a send of n bytes needs, behind those that join the last.
@@ -61,6 +54,7 @@ fn needed(mss: usize, stream: bool, queued: usize, last: usize, n: usize) -> usi
 }
 
 // The frg of a segment that so many of its message follow; 0 in stream mode.
+#[tactic(auto, unfolding(serial::specs::Branch::pick))]
 fn frg_of(stream: bool, left: usize) -> u32
     requires { left < 65536 }
     ensures { result ≡ pick stream 0 left }
@@ -68,27 +62,16 @@ fn frg_of(stream: bool, left: usize) -> u32
     if stream { 0 } else { left as u32 }
 }
 
-// Where the piece from byte `from` of n on ends: mss bytes on, or at the end.
-fn end_of(mss: usize, from: usize, n: usize) -> usize
-    requires { from ≤ n }
-    ensures { result ≡ min (from + mss) n }
-{
-    if n - from < mss { n } else { from + mss }
-}
-
 // The length of the last queued segment's payload.
-fn last_length(ring: SndRing, records: &[u32]) -> usize
-    requires records_len_bound { length records.now / 9 ≤ 65535 }
-    requires start_in_bounds { ring.start < length records.now / 9 }
-    requires unsent_in_bounds { ring.reach + ring.unsent ≤ length records.now / 9 }
-    ensures { (room : List ℕ) → result ≡ last_length ring (store_of 8 (lists records.now room)) }
+fn last_length(sender: Sender, records: &[u32]) -> usize
+    requires { Lies sender records.now }
+    ensures { (room : List ℕ) → result ≡ last_length sender.ring (store_of 8 (lists records.now room)) }
 {
+    let ring = sender.ring;
     let n = ring.reach as usize + ring.unsent as usize;
-    let last = if n == 0 { 0 } else { n - 1 };
     let slots = snd_ring::slots_in(records.len());
-    let q = ring::place_of(slots, ring.start as usize, last);
-    let mark = records[q] as usize;
-    if mark == 0 { 0 } else { mark - 1 }
+    let q = ring::place_of(slots, ring.start as usize, n.saturating_sub(1));
+    (records[q] as usize).saturating_sub(1)
 }
 
 // The last queued segment is filled up to mss, in stream mode, and its frg is 0.
@@ -107,12 +90,12 @@ fn fill_last(
 {
     let ring = sender.ring;
     let queued = ring.unsent as usize;
-    let last = last_length(ring, records);
+    let last = last_length(sender, records);
     if !fills(mss, stream, queued, last) {
         return;
     }
     let n = joins(mss, stream, queued, last, bytes.len());
-    snd_ring::fill(ring, records, room, &bytes[0..n], FRG, 0);
+    ring.fill(records, room, &bytes[0..n], FRG, 0);
 }
 
 // Where the end is too short for so many new segments, the gaps in flight are closed.
@@ -123,7 +106,7 @@ fn make_room(ring: SndRing, records: &mut [u32], room: &mut [u8], new: usize) ->
 {
     let used = ring.reach as usize + ring.unsent as usize;
     if snd_ring::slots_in(records.len()) < used + new {
-        return snd_ring::close(ring, records, room);
+        return ring.close(records, room);
     }
     ring
 }
@@ -148,12 +131,10 @@ fn queue(
 {
     let mut ring = start;
     let mut at = from;
-    let mut left = count;
-    while left > 0 {
-        left -= 1;
-        let end = end_of(mss, at, bytes.len());
+    for left in (0..count).rev() {
+        let end = (at + mss).min(bytes.len());
         let row = [0, frg_of(stream, left), 0, 0, 0, 0, 0, 0];
-        ring = snd_ring::append(ring, records, room, &row, &bytes[at..end]);
+        ring = ring.append(records, room, &row, &bytes[at..end]);
         at = end;
     }
     ring
@@ -163,16 +144,16 @@ fn queue(
 #[derive(Clone, Copy)]
 pub struct Sent {
     pub sender: Sender,
-    pub answer: Bytes,
+    pub answer: Result<usize, Refusal>,
 }
 
 // A refusal: the numbers of the sending side are as they were.
 fn refused(sender: Sender, why: Refusal) -> Sent
-    ensures { result ≡ record { sender = sender; answer = Refused why } }
+    ensures { result ≡ record { sender = sender; answer = Err why } }
 {
     Sent {
-        sender: sender,
-        answer: Bytes::Refused { why: why },
+        sender,
+        answer: Err(why),
     }
 }
 
@@ -194,7 +175,7 @@ pub fn send(
     let size = mss as usize;
     let ring = sender.ring;
     let queued = ring.unsent as usize;
-    let last = last_length(ring, records);
+    let last = last_length(sender, records);
     let new = needed(size, stream, queued, last, bytes.len());
     if new >= 128 {
         fill_last(sender, size, stream, records, room, bytes);
@@ -210,6 +191,6 @@ pub fn send(
     let after = queue(free, records, room, new, size, stream, bytes, from);
     Sent {
         sender: sender.with_ring(after),
-        answer: Bytes::Are { count: bytes.len() },
+        answer: Ok(bytes.len()),
     }
 }

@@ -1,10 +1,10 @@
 -- The rules of the sending side on closed cases, each of which the Rust was seen to answer so. Assumes nothing.
-use Rattle.std.specs.Prelude.{ℕ, ◌+◌, ◌^◌, ◌≡◌, refl, true, false, List, [], ◌∷◌}
+use Rattle.std.specs.Prelude.{ℕ, ◌+◌, ◌^◌, ◌≡◌, refl, true, false, List, [], ◌∷◌, ◌++◌, Some, None}
 use Rattle.serial.specs.Branch.{pick}
 use Rattle.sending.specs.declared.Flight.{Flight}
-use Rattle.sending.specs.declared.Latest.{Latest}
-use Rattle.sending.specs.Rules.{acknowledged_by, una_of, in_range, seek, meets, later, gains, fastack_of, counts, past_threshold, rounded_up, opened, cut_to, grown}
-use Rattle.sending.specs.Flights.{raise_first}
+use Rattle.sending.specs.declared.Ack.{Ack}
+use Rattle.sending.specs.Rules.{acknowledged_by, una_of, in_range, seek, meets, Sending, later, gains, fastack_of, parse_fastack, past_threshold, rounded_up, opened, cut_to, grown}
+use Rattle.sending.specs.Flights.{raised_flights}
 
 -- una exactly 2^31 past a number drops it not, and one less drops it; the front number is the new snd_una, or snd_nxt
 una : (acknowledged_by 2147483648 (0 ∷ 1 ∷ []) ≡ 0) × (acknowledged_by 2147483647 (0 ∷ 1 ∷ []) ≡ 2) × (acknowledged_by 1 (0 ∷ 1 ∷ 2 ∷ []) ≡ 1) × (una_of 9 (3 ∷ []) ≡ 3) × (una_of 9 [] ≡ 9)
@@ -20,11 +20,11 @@ unfolding wrapped in_range seek meets
 search = (refl, refl, refl, refl, refl, refl)
 
 -- the first ack counts whatever it is; a later one with the same ts does not
-first : Latest
-first = record { seen = true; sn = 1; ts = 10 }
+ack : ℕ → ℕ → Ack
+ack sn ts = record { sn = sn; ts = ts }
 
-latest : (later (record { seen = false; sn = 0; ts = 0 }) 1 10 ≡ first) × (later first 3 10 ≡ first) × (later first 3 11 ≡ record { seen = true; sn = 3; ts = 11 }) × (later first 0 11 ≡ first)
-unfolding first later pick
+latest : (later None (ack 1 10) ≡ ack 1 10) × (later (Some (ack 1 10)) (ack 3 10) ≡ ack 1 10) × (later (Some (ack 1 10)) (ack 3 11) ≡ ack 3 11) × (later (Some (ack 1 10)) (ack 0 11) ≡ ack 1 10)
+unfolding ack later pick
 latest = (refl, refl, refl, refl)
 
 -- a ts exactly 2^31 before latest_ts does not count, one less does; fastack wraps
@@ -32,18 +32,23 @@ fast : (fastack_of 2 (10 + 2 ^ 31) 0 10 0 ≡ 0) × (fastack_of 2 2147483657 0 1
 unfolding fastack_of gains pick
 fast = (refl, refl, refl, refl)
 
--- of three flight records the first two are gone over, and one of them is numbered before 2
+-- of three flight records two gain one: the second is not numbered before 2
 flight : ℕ → ℕ → Flight
 flight sn n = record { number = sn; ts = 10; fastack = n }
 
-first_two : raise_first 2 2 10 (flight 0 4 ∷ flight 2 7 ∷ flight 1 5 ∷ []) ≡ flight 0 5 ∷ flight 2 7 ∷ flight 1 5 ∷ []
+two : raised_flights 2 10 (flight 0 4 ∷ flight 2 7 ∷ flight 1 5 ∷ []) ≡ flight 0 5 ∷ flight 2 7 ∷ flight 1 6 ∷ []
+unfolding flight fastack_of gains pick
+two = refl
+
+-- where the first two of them are lent, the last stays
+first_two : raised_flights 2 10 (flight 0 4 ∷ flight 2 7 ∷ []) ++ (flight 1 5 ∷ []) ≡ flight 0 5 ∷ flight 2 7 ∷ flight 1 5 ∷ []
 unfolding flight fastack_of gains pick
 first_two = refl
 
--- max_ack that was never sent counts for none
-none : (counts (record { seen = true; sn = 1000; ts = 10 }) 0 3 ≡ false) × (counts (record { seen = false; sn = 1; ts = 10 }) 0 3 ≡ false) × (counts first 0 3 ≡ true)
-unfolding counts in_range first
-none = (refl, refl, refl)
+-- max_ack that was never sent counts for none, and no ack for none; one in flight counts
+none : ((s : Sending) → parse_fastack None s ≡ s) × (in_range 0 3 1000 ≡ false) × (in_range 0 3 1 ≡ true)
+unfolding in_range parse_fastack
+none = ((λ s. refl), refl, refl)
 
 -- the growth from scratch, one ack each, and with the cast: mss 26, (2002, 2954952) gives cwnd 48117, of 113653 uncast
 grow : (grown 1376 2 128 (record { cwnd = 1; incr = 1376 }) ≡ record { cwnd = 2; incr = 2752 })

@@ -1,10 +1,10 @@
 -- The sending side's rules over lists of segments: of 01's Input what is done with una, Ack, and the two steps at an input's end, (a) and (b).
 -- Every decision is a function of numbers and lists of numbers, so that the functions over memory make the same. Assumes nothing.
-use Rattle.std.specs.Prelude.{ℕ, suc, ◌+◌, ◌-◌, ◌/◌, max, Bool, true, cond, not, ◌&&◌, ◌||◌, List, [], ◌∷◌, map, length, drop, get_or, ltb, leb, eqb}
+use Rattle.std.specs.Prelude.{ℕ, suc, ◌+◌, ◌-◌, ◌/◌, max, Bool, cond, not, Option, Some, None, ◌&&◌, ◌||◌, List, [], ◌∷◌, map, length, drop, get_or, ltb, leb, eqb}
 use Rattle.serial.specs.Branch.{pick}
 use Rattle.serial.specs.Wrap.{add32, add16, add64, mul64, low16, not_before, after}
 use Rattle.ring.specs.Sequences.{removed}
-use Rattle.sending.specs.declared.Latest.{Latest}
+use Rattle.sending.specs.declared.Ack.{Ack}
 use Rattle.sending.specs.declared.Window.{Window}
 
 -- a segment that was sent, or waits to be sent: what a resend and the ack of it need
@@ -76,8 +76,9 @@ parse_ack sn s =
 
 -- ---- "A datagram's first ack sets max_ack and latest_ts; a later one only if both sn and ts are later"
 
-unfoldable pub later : Latest → ℕ → ℕ → Latest
-later l sn ts = pick (not l.seen || (after sn l.sn && after ts l.ts)) (record { seen = true; sn = sn; ts = ts }) l
+unfoldable pub later : Option Ack → Ack → Ack
+later None a = a
+later (Some l) a = pick (after a.sn l.sn && after a.ts l.ts) a l
 
 -- ---- (a) "If an ack was seen and max_ack lies in [snd_una, snd_nxt): of the send-buffer segments, front to back, every flight record numbered
 -- ---- before it, with ts not later than latest_ts, gains one fastack"
@@ -103,11 +104,9 @@ raised max_ack latest_ts s = record {
   payload = s.payload;
 }
 
-unfoldable pub counts : Latest → ℕ → ℕ → Bool
-counts l una next = l.seen && in_range una next l.sn
-
-unfoldable pub parse_fastack : Latest → Sending → Sending
-parse_fastack l s = cond (counts l s.una s.next) (with_flying s (map (raised l.sn l.ts) s.flying)) s
+unfoldable pub parse_fastack : Option Ack → Sending → Sending
+parse_fastack None s = s
+parse_fastack (Some l) s = cond (in_range s.una s.next l.sn) (with_flying s (map (raised l.sn l.ts) s.flying)) s
 
 -- ---- (b) "If .. cwnd < rmt_wnd, the window grows as in `input`: by 1 and incr by mss while under ssthresh; otherwise the incr rule of the
 -- ---- source, its u16 cast kept"; then the source's cut to rmt_wnd. One step for each input; whether snd_una moved forward is asked by input.

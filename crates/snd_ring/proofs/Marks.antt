@@ -5,7 +5,7 @@ use native.Mathlib.Omega.{arith}
 use borrow.Author.Tests.{lt-ltb, le-ltb}
 use Rattle.ring.specs.Places.{summed}
 use Rattle.ring.proofs.Places.{by_less, summed-first}
-use Rattle.ring.proofs.Counting.{by-least, least_yes, least_no, least_le}
+use Rattle.ring.proofs.Counting.{by_bool, by-least, least_yes, least_no, least_le}
 use Rattle.snd_ring.specs.Marks.{live_of, passed}
 
 module _ (k : ℕ) where
@@ -96,3 +96,5 @@ module _ (g : ℕ → ℕ) where
         let e : n - i ≡ 0 = omega arith in
         let p = passed_none i k in
         rw e (omega arith)
+
+pub ruleset of_passed = (pass-stop, pass-turn, pass-end, by_bool)

@@ -153,3 +153,9 @@ written_by w a c n q k x y {r} {d} e h whole f g =
     store-mark w (take n a ++ (r ++ drop (length a - n) (drop n a))) d q k (rw l (omega arith))
     ∙ ap (λ (m : Store). with_marks m (set m.marks q k)) (store-part w a d n e r s)
     ∙ rw (u, g)
+
+-- ---- for the answers that the check finds
+
+pub ruleset lengths = (marks-length)
+
+pub ruleset numbers = (store-number)

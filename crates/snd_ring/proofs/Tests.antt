@@ -71,11 +71,3 @@ module _ (r : SndRing) (l : List ℕ) where
         eq-eqb _ _ (all_live l r.start r.reach r.unsent x.waits),
         of-normal r.reach (get_or l r.start 0) x.normal,
       )
-
-  -- ---- `marks_fit`: each test by what it finds
-
-  module _ {a b x y : ℕ} (p : a ≡ faults l r.start 0 r.reach) (q : b ≡ lives l r.start 0 r.reach)
-      (u : x ≡ faults l r.start r.reach r.unsent) (v : y ≡ lives l r.start r.reach r.unsent) where
-    pub fit_by : (eqb a 0 && (eqb b r.flying && (eqb x 0 && (eqb y r.unsent && (eqb r.reach 0 || not (eqb (get_or l r.start 0) 0)))))) ≡ marks_fit r l
-    unfolding marks_fit
-    fit_by = rw (p, q, u, v)

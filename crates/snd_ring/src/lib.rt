@@ -5,13 +5,13 @@
 ghost use Rattle.std.specs.Prelude.{◌≡◌, List, [], ℕ, ◌+◌, ◌-◌, ◌*◌, ◌/◌, ◌<◌, ◌≤◌, length, get_or};
 ghost use Rattle.ring.specs.Lists.{lists};
 ghost use Rattle.ring.specs.Records.{put_slot, part_slot, number_at};
-ghost use Rattle.snd_ring.specs.Marks.{live_of, mark_at, passed};
+ghost use Rattle.snd_ring.specs.Marks.{live_of, mark_at, Within, passed};
 ghost use Rattle.snd_ring.specs.Store.{store_of, segment, Sized, Shaped, Sound, marks_fit};
 ghost use Rattle.snd_ring.specs.Steps.{written, with_marks, renumbered, appended_ring, appended, launched, settled, dropped, gapped, taken_out, slid_one, slid, closed, closed_ring, last, filled};
 
 // Index 0 stands at place `start`. The first `reach` indices are in flight, `flying` of them segments and the others gaps; the `unsent` indices behind
-// them wait to be sent.
-#[derive(Clone, Copy)]
+// them wait to be sent. The records and the room stay two slices, as a host lends them anew for each call (kcp_c).
+#[derive(Clone, Copy, Debug, PartialEq, Eq)]
 pub struct SndRing {
     pub start: u32,
     pub reach: u32,
@@ -31,54 +31,180 @@ pub fn slots_in(numbers: usize) -> usize
     numbers / 9
 }
 
-// Number k of the row at place q, of so many slots.
-pub fn number_at(records: &[u32], slots: usize, q: usize, k: usize) -> u32
-    requires slots_value { slots ≡ length records.now / 9 }
-    requires q_lt_slots { q < slots }
+// Number k of the row at place q.
+#[tactic(auto, using(crate::proofs::Splits::number_read))]
+pub fn number_at(records: &[u32], q: usize, k: usize) -> u32
+    requires q_lt_slots { q < length records.now / 9 }
     requires k_bound { k < 8 }
     ensures { result ≡ number_at 8 (store_of 8 (lists records.now [])).rows q k }
 {
-    let i = slots + q * 8 + k;
-    records[i]
+    records[slots_in(records.len()) + q * 8 + k]
 }
 
 // Number k of the row at place q becomes x; every other number stays.
-pub fn put_number(records: &mut [u32], slots: usize, q: usize, k: usize, x: u32)
-    requires slots_value { slots ≡ length records.old / 9 }
-    requires q_lt_slots { q < slots }
+#[tactic(auto, using(crate::proofs::Splits::numbers))]
+pub fn put_number(records: &mut [u32], q: usize, k: usize, x: u32)
+    requires q_lt_slots { q < length records.old / 9 }
     requires k_bound { k < 8 }
     ensures { (room : List ℕ) → store_of 8 (lists records.new room) ≡ renumbered 8 (store_of 8 (lists records.old room)) q k x }
 {
-    records[slots + q * 8 + k] = x;
+    records[slots_in(records.len()) + q * 8 + k] = x;
 }
 
-// Whether the marks in use are sound, `flying` counts the segments in flight, and the first index in flight is no gap.
-pub fn marks_fit(ring: SndRing, marks: &[u32]) -> bool
-    requires marks_len_bound { length marks.now ≤ 65535 }
-    requires start_in_bounds { ring.start < length marks.now }
-    requires unsent_in_bounds { ring.reach + ring.unsent ≤ length marks.now }
-    ensures { result ≡ marks_fit ring marks.now }
-{
-    let start = ring.start as usize;
-    let reach = ring.reach as usize;
-    let flight = ring::tally(marks, start, 0, reach, SEGMENT, FAULT);
-    if flight.high != 0 {
-        return false;
+impl SndRing {
+    // Whether the marks in use are sound, `flying` counts the segments in flight, and the first index in flight is no gap.
+    #[tactic(auto, unfolding(crate::specs::Store::marks_fit))]
+    pub fn marks_fit(self, marks: &[u32]) -> bool
+        requires within { Within marks.now self.start }
+        requires unsent_in_bounds { self.reach + self.unsent ≤ length marks.now }
+        ensures { result ≡ marks_fit self marks.now }
+    {
+        let start = self.start as usize;
+        let reach = self.reach as usize;
+        let flight = ring::tally(marks, start, 0, reach, SEGMENT, FAULT);
+        let waiting = ring::tally(marks, start, reach, self.unsent as usize, SEGMENT, FAULT);
+        flight.high == 0
+            && flight.low == self.flying
+            && waiting.high == 0
+            && waiting.low == self.unsent
+            && (reach == 0 || marks[start] != 0)
     }
-    if flight.low != ring.flying {
-        return false;
+
+    // One segment more waits, behind the others.
+    #[tactic(auto, using(crate::proofs::Splits::lengths))]
+    pub fn append(
+        self,
+        records: &mut [u32],
+        room: &mut [u8],
+        row: &[u32],
+        payload: &[u8],
+    ) -> SndRing
+        requires shaped { Shaped 8 self (store_of 8 (lists records.old room.old)) }
+        requires unsent_in_bounds { self.reach + self.unsent < length records.old / 9 }
+        requires row_len { length row.now ≡ 8 }
+        requires payload_len_bound { length payload.now ≤ 1476 }
+        ensures { (result ≡ appended_ring self)
+            × (store_of 8 (lists records.new room.new)
+            ≡ appended 8 self (store_of 8 (lists records.old room.old)) (segment row.now payload.now)) }
+    {
+        let i = self.reach as usize + self.unsent as usize;
+        let q = ring::place_of(slots_in(records.len()), self.start as usize, i);
+        write(records, room, q, row, payload);
+        SndRing {
+            unsent: self.unsent + 1,
+            ..self
+        }
     }
-    let waiting = ring::tally(marks, start, reach, ring.unsent as usize, SEGMENT, FAULT);
-    if waiting.high != 0 {
-        return false;
+
+    // The first segment that waits is in flight; no memory moves.
+    pub fn launch(self) -> SndRing
+        requires unsent_nonzero { 0 < self.unsent }
+        requires reach_bound { self.reach ≤ 65535 }
+        requires flying_bound { self.flying ≤ 65535 }
+        ensures { result ≡ launched self }
+    {
+        SndRing {
+            reach: self.reach + 1,
+            flying: self.flying + 1,
+            unsent: self.unsent - 1,
+            ..self
+        }
     }
-    if waiting.low != ring.unsent {
-        return false;
+
+    // Where nothing is in use, the ring starts at place 0.
+    #[tactic(auto, unfolding(crate::specs::Steps::settled))]
+    fn settle(self) -> SndRing
+        requires reach_bound { self.reach ≤ 65535 }
+        requires unsent_bound { self.unsent ≤ 65535 }
+        ensures { result ≡ settled self }
+    {
+        if self.reach + self.unsent == 0 {
+            SndRing { start: 0, ..self }
+        } else {
+            self
+        }
     }
-    if reach == 0 {
-        return true;
+
+    // The first k segments in flight leave, and the gaps behind them.
+    #[tactic(auto, using(crate::proofs::Steps::dropped_by))]
+    pub fn drop_front(self, marks: &[u32], k: u32) -> SndRing
+        requires within { Within marks.now self.start }
+        requires unsent_in_bounds { self.reach + self.unsent ≤ length marks.now }
+        requires k_le_flying { k ≤ self.flying }
+        ensures { result ≡ dropped self marks.now k }
+    {
+        let slots = marks.len();
+        let start = self.start as usize;
+        let reach = self.reach as usize;
+        let t = passed_by(marks, start, reach, k as usize);
+        let q = ring::place_of(slots, start, t);
+        SndRing {
+            start: q as u32,
+            reach: (reach - t) as u32,
+            flying: self.flying - k,
+            ..self
+        }
+        .settle()
     }
-    marks[start] != 0
+
+    // The segment at index i in flight becomes a gap, and gaps at the front leave.
+    pub fn take_out(self, records: &mut [u32], i: usize) -> SndRing
+        requires records_len_bound { length records.old / 9 ≤ 65535 }
+        requires start_in_bounds { self.start < length records.old / 9 }
+        requires unsent_in_bounds { self.reach + self.unsent ≤ length records.old / 9 }
+        requires i_lt_reach { i < self.reach }
+        requires flying_nonzero { 0 < self.flying }
+        ensures { (room : List ℕ) → (result ≡ taken_out self (store_of 8 (lists records.old room)).marks i)
+            × (store_of 8 (lists records.new room) ≡ with_marks (store_of 8 (lists records.old room)) (gapped self (store_of 8 (lists records.old room)).marks i)) }
+    {
+        let slots = slots_in(records.len());
+        let q = ring::place_of(slots, self.start as usize, i);
+        records[q] = 0;
+        let less = SndRing {
+            flying: self.flying - 1,
+            ..self
+        };
+        less.drop_front(&records[0..slots], 0)
+    }
+
+    // Closes the gaps in flight: its segments are moved toward the back, so that reach is flying.
+    #[tactic(auto, using(crate::proofs::Splits::lengths))]
+    pub fn close(self, records: &mut [u32], room: &mut [u8]) -> SndRing
+        requires { Sound 8 self (store_of 8 (lists records.old room.old)) }
+        ensures { (result ≡ closed_ring (length records.old / 9) self)
+            × (store_of 8 (lists records.new room.new) ≡ closed 8 self (store_of 8 (lists records.old room.old))) }
+    {
+        let start = self.start as usize;
+        let reach = self.reach as usize;
+        let gaps = (self.reach - self.flying) as usize;
+        let q = ring::place_of(slots_in(records.len()), start, gaps);
+        slide_all(records, room, start, reach);
+        SndRing {
+            start: q as u32,
+            reach: self.flying,
+            ..self
+        }
+        .settle()
+    }
+
+    // The bytes are put behind the payload of the last segment that waits, and number k of its row becomes x.
+    #[tactic(auto, using(crate::proofs::Splits::lengths))]
+    pub fn fill(self, records: &mut [u32], room: &mut [u8], bytes: &[u8], k: usize, x: u32)
+        requires shaped { Shaped 8 self (store_of 8 (lists records.old room.old)) }
+        requires unsent_nonzero { 0 < self.unsent }
+        requires nonzero { 0 < mark_at (store_of 8 (lists records.old room.old)).marks self.start (last self) }
+        requires bytes_bound { mark_at (store_of 8 (lists records.old room.old)).marks self.start (last self) + length bytes.now ≤ 1477 }
+        requires k_bound { k < 8 }
+        ensures { store_of 8 (lists records.new room.new)
+            ≡ filled 8 self (store_of 8 (lists records.old room.old)) bytes.now k x }
+    {
+        let i = self.reach as usize + self.unsent as usize - 1;
+        let q = ring::place_of(slots_in(records.len()), self.start as usize, i);
+        let mark = records[q];
+        ring::put_payload(room, q, (mark - 1) as usize, bytes);
+        records[q] = mark + bytes.len() as u32;
+        put_number(records, q, k, x);
+    }
 }
 
 // Puts a mark, the row and the payload into the slot at place q; every other slot stays.
@@ -96,135 +222,22 @@ fn write(records: &mut [u32], room: &mut [u8], q: usize, row: &[u32], payload: &
     ring::put_payload(room, q, 0, payload);
 }
 
-// One segment more waits, behind the others.
-pub fn append(
-    ring: SndRing,
-    records: &mut [u32],
-    room: &mut [u8],
-    row: &[u32],
-    payload: &[u8],
-) -> SndRing
-    requires shaped { Shaped 8 ring (store_of 8 (lists records.old room.old)) }
-    requires unsent_in_bounds { ring.reach + ring.unsent < length records.old / 9 }
-    requires row_len { length row.now ≡ 8 }
-    requires payload_len_bound { length payload.now ≤ 1476 }
-    ensures { (result ≡ appended_ring ring)
-        × (store_of 8 (lists records.new room.new)
-        ≡ appended 8 ring (store_of 8 (lists records.old room.old)) (segment row.now payload.now)) }
-{
-    let i = ring.reach as usize + ring.unsent as usize;
-    let q = ring::place_of(slots_in(records.len()), ring.start as usize, i);
-    write(records, room, q, row, payload);
-    SndRing {
-        start: ring.start,
-        reach: ring.reach,
-        flying: ring.flying,
-        unsent: ring.unsent + 1,
-    }
-}
-
-// The first segment that waits is in flight; no memory moves.
-pub fn launch(ring: SndRing) -> SndRing
-    requires unsent_nonzero { 0 < ring.unsent }
-    requires reach_bound { ring.reach ≤ 65535 }
-    requires flying_bound { ring.flying ≤ 65535 }
-    ensures { result ≡ launched ring }
-{
-    SndRing {
-        start: ring.start,
-        reach: ring.reach + 1,
-        flying: ring.flying + 1,
-        unsent: ring.unsent - 1,
-    }
-}
-
-// Where nothing is in use, the ring starts at place 0.
-fn settle(ring: SndRing) -> SndRing
-    requires reach_bound { ring.reach ≤ 65535 }
-    requires unsent_bound { ring.unsent ≤ 65535 }
-    ensures { result ≡ settled ring }
-{
-    if ring.reach + ring.unsent == 0 {
-        return SndRing {
-            start: 0,
-            reach: ring.reach,
-            flying: ring.flying,
-            unsent: ring.unsent,
-        };
-    }
-    ring
-}
-
-// 1 at a segment, 0 at a gap.
-fn live_of(mark: u32) -> usize
-    ensures { result ≡ live_of mark }
-{
-    if 1 <= mark { 1 } else { 0 }
-}
-
 // How many of the first n indices are passed until k segments are, and the gaps behind them.
+#[tactic(auto, using(crate::proofs::Marks::of_passed))]
 fn passed_by(marks: &[u32], start: usize, n: usize, k: usize) -> usize
-    requires marks_len_bound { length marks.now ≤ 65535 }
-    requires start_in_bounds { start < length marks.now }
+    requires within { Within marks.now start }
     requires n_in_bounds { n ≤ length marks.now }
     ensures { (result ≤ n) × (result ≡ passed (mark_at marks.now start) 0 n k) }
 {
-    let slots = marks.len();
     let mut left = k;
-    let mut i = 0;
-    while i < n {
-        let q = ring::place_of(slots, start, i);
-        let x = live_of(marks[q]);
-        if left < x {
+    for i in 0..n {
+        let live = usize::from(SEGMENT <= marks[ring::place_of(marks.len(), start, i)]);
+        if left < live {
             return i;
         }
-        left -= x;
-        i += 1;
+        left -= live;
     }
-    i
-}
-
-// The first k segments in flight leave, and the gaps behind them.
-pub fn drop_front(ring: SndRing, marks: &[u32], k: u32) -> SndRing
-    requires marks_len_bound { length marks.now ≤ 65535 }
-    requires start_in_bounds { ring.start < length marks.now }
-    requires unsent_in_bounds { ring.reach + ring.unsent ≤ length marks.now }
-    requires k_le_flying { k ≤ ring.flying }
-    ensures { result ≡ dropped ring marks.now k }
-{
-    let slots = marks.len();
-    let start = ring.start as usize;
-    let reach = ring.reach as usize;
-    let t = passed_by(marks, start, reach, k as usize);
-    let q = ring::place_of(slots, start, t);
-    settle(SndRing {
-        start: q as u32,
-        reach: (reach - t) as u32,
-        flying: ring.flying - k,
-        unsent: ring.unsent,
-    })
-}
-
-// The segment at index i in flight becomes a gap, and gaps at the front leave.
-pub fn take_out(ring: SndRing, records: &mut [u32], i: usize) -> SndRing
-    requires records_len_bound { length records.old / 9 ≤ 65535 }
-    requires start_in_bounds { ring.start < length records.old / 9 }
-    requires unsent_in_bounds { ring.reach + ring.unsent ≤ length records.old / 9 }
-    requires i_lt_reach { i < ring.reach }
-    requires flying_nonzero { 0 < ring.flying }
-    ensures { (room : List ℕ) → (result ≡ taken_out ring (store_of 8 (lists records.old room)).marks i)
-        × (store_of 8 (lists records.new room) ≡ with_marks (store_of 8 (lists records.old room)) (gapped ring (store_of 8 (lists records.old room)).marks i)) }
-{
-    let slots = slots_in(records.len());
-    let q = ring::place_of(slots, ring.start as usize, i);
-    records[q] = 0;
-    let less = SndRing {
-        start: ring.start,
-        reach: ring.reach,
-        flying: ring.flying - 1,
-        unsent: ring.unsent,
-    };
-    drop_front(less, &records[0..slots], 0)
+    n
 }
 
 // Copies the row at place a to place b.
@@ -233,12 +246,10 @@ fn carry(rows: &mut [u32], a: usize, b: usize)
     requires b_in_bounds { b * 8 + 8 ≤ length rows.old }
     ensures { rows.new ≡ put_slot 8 rows.old b 0 (part_slot 8 rows.old a 0 8) }
 {
-    let mut t = [0u32; 8];
-    ring::get_record(rows, a, &mut t);
-    ring::put_record(rows, b, &t);
+    rows.copy_within(a * 8..a * 8 + 8, b * 8);
 }
 
-// Copies the n bytes at place a to place b. By way of an array, so that the compiler makes one memmove of it.
+// Copies the n bytes at place a to place b. By way of an array: that is one memmove, where copy_within is compiled to loops.
 fn shift(room: &mut [u8], a: usize, n: usize, b: usize)
     requires a_in_bounds { a * 1476 + 1476 ≤ length room.old }
     requires b_in_bounds { b * 1476 + 1476 ≤ length room.old }
@@ -246,14 +257,13 @@ fn shift(room: &mut [u8], a: usize, n: usize, b: usize)
     ensures { room.new ≡ put_slot 1476 room.old b 0 (part_slot 1476 room.old a 0 n) }
 {
     let from = a * 1476;
-    let end = from + n;
-    let to = b * 1476;
     let mut t = [0u8; 1476];
-    ring::copy(&room[from..end], &mut t);
-    ring::copy(&t[0..n], &mut room[to..]);
+    ring::copy(&room[from..from + n], &mut t);
+    ring::copy(&t[..n], &mut room[b * 1476..]);
 }
 
 // Where there is a segment at index i, puts it at the index before `to`; answers the index that the next one goes before.
+#[tactic(auto, using(crate::proofs::Splits::lengths))]
 fn slide(records: &mut [u32], room: &mut [u8], start: usize, i: usize, to: usize) -> usize
     requires sized { Sized 8 (store_of 8 (lists records.old room.old)) }
     requires start_in_bounds { start < length records.old / 9 }
@@ -289,47 +299,7 @@ fn slide_all(records: &mut [u32], room: &mut [u8], start: usize, n: usize)
     ensures { store_of 8 (lists records.new room.new) ≡ slid 8 (store_of 8 (lists records.old room.old)) start n n }
 {
     let mut to = n;
-    let mut i = n;
-    while 0 < i {
-        i -= 1;
+    for i in (0..n).rev() {
         to = slide(records, room, start, i, to);
     }
-}
-
-// Closes the gaps in flight: its segments are moved toward the back, so that reach is flying.
-pub fn close(ring: SndRing, records: &mut [u32], room: &mut [u8]) -> SndRing
-    requires { Sound 8 ring (store_of 8 (lists records.old room.old)) }
-    ensures { (result ≡ closed_ring (length records.old / 9) ring)
-        × (store_of 8 (lists records.new room.new) ≡ closed 8 ring (store_of 8 (lists records.old room.old))) }
-{
-    let start = ring.start as usize;
-    let reach = ring.reach as usize;
-    let gaps = (ring.reach - ring.flying) as usize;
-    let q = ring::place_of(slots_in(records.len()), start, gaps);
-    slide_all(records, room, start, reach);
-    settle(SndRing {
-        start: q as u32,
-        reach: ring.flying,
-        flying: ring.flying,
-        unsent: ring.unsent,
-    })
-}
-
-// The bytes are put behind the payload of the last segment that waits, and number k of its row becomes x.
-pub fn fill(ring: SndRing, records: &mut [u32], room: &mut [u8], bytes: &[u8], k: usize, x: u32)
-    requires shaped { Shaped 8 ring (store_of 8 (lists records.old room.old)) }
-    requires unsent_nonzero { 0 < ring.unsent }
-    requires nonzero { 0 < mark_at (store_of 8 (lists records.old room.old)).marks ring.start (last ring) }
-    requires bytes_bound { mark_at (store_of 8 (lists records.old room.old)).marks ring.start (last ring) + length bytes.now ≤ 1477 }
-    requires k_bound { k < 8 }
-    ensures { store_of 8 (lists records.new room.new)
-        ≡ filled 8 ring (store_of 8 (lists records.old room.old)) bytes.now k x }
-{
-    let slots = slots_in(records.len());
-    let i = ring.reach as usize + ring.unsent as usize - 1;
-    let q = ring::place_of(slots, ring.start as usize, i);
-    let mark = records[q];
-    ring::put_payload(room, q, (mark - 1) as usize, bytes);
-    records[q] = mark + bytes.len() as u32;
-    put_number(records, slots, q, k, x);
 }

@@ -8,6 +8,7 @@ use mathlib.Core.Bool.{Bool, true, false, not, ◌&&◌}
 use mathlib.Core.Logic.{◌⊎◌, inl, inr}
 use mathlib.Core.List.{List}
 use lib.ListN.{length}
+use Rattle.std.proofs.Common.{Option}
 use borrow.Author.Tests.{not-true, not-false}
 use Rattle.ring.specs.Lists.{Lists, lists}
 use Rattle.ring.proofs.Places.{place-zero}
@@ -21,7 +22,7 @@ use Rattle.block.specs.Sizes.{send_slots, RingSizes}
 use Rattle.block.specs.WellFormed.{own_numbers, OwnNumbers, SenderFits}
 use Rattle.block.proofs.Exact.{Exactly, exactly_both, exactly_as, ring-sizes, own-numbers, send-numbers}
 use Rattle.block.proofs.Together.{goes, stops}
-use Rattle.sending.specs.declared.Latest.{Latest}
+use Rattle.sending.specs.declared.Ack.{Ack}
 use Rattle.transmit.specs.Memory.{Side, side, una_at, ack_at, fastack_at}
 use Rattle.transmit.specs.Fits.{send_lent, SendLent, send_fits, SendFits, Lies}
 use Rattle.transmit.proofs.Seen.{live-flying, una-sound, ack-sound, fastack-sound}
@@ -139,7 +140,7 @@ module _ {s : Sender} {a : List ℕ} (l : Lies s a) where
     sound = subst (λ (y : Side). Sound 8 y.sender.ring y.store) (sym (e l.room)) (ack-sound x s (store_of 8 (lists a l.room)) l.sound);
   }
 
-  pub fastack-lies : (latest : Latest) (b : List ℕ) → ((room : List ℕ) → store_of 8 (lists b room) ≡ fastack_at latest s (store_of 8 (lists a room))) → Lies s b
+  pub fastack-lies : (latest : Option Ack) (b : List ℕ) → ((room : List ℕ) → store_of 8 (lists b room) ≡ fastack_at latest s (store_of 8 (lists a room))) → Lies s b
   fastack-lies latest b e = record {
     room = l.room;
     sound = subst (Sound 8 s.ring) (sym (e l.room)) (fastack-sound latest s (store_of 8 (lists a l.room)) l.sound);

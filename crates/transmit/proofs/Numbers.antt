@@ -9,6 +9,8 @@ use mathlib.Core.Bool.{Bool, true, false}
 use mathlib.Core.List.{List, [], ◌∷◌, ◌++◌, map, map-map}
 use lib.ListN.{length, get_or}
 use borrow.Author.Tests.{lt-ltb, le-ltb, eq-eqb, ne_eqb}
+use Rattle.std.proofs.Common.{Some, None}
+use Rattle.serial.specs.Branch.{pick, pick_true, pick-false}
 use Rattle.serial.specs.Wrap.{after}
 use Rattle.ring.specs.Lists.{lists}
 use Rattle.ring.specs.Places.{place, along}
@@ -27,8 +29,7 @@ use Rattle.snd_ring.proofs.Splits.{place_by, mark-read}
 use Rattle.snd_ring.proofs.Views.{cell-gap, cell-live}
 use Rattle.block.specs.declared.sender.Sender.{Sender}
 use Rattle.sending.specs.Rules.{Segment, numbers, acknowledged_by, una_of, stops, seek, meets}
-use Rattle.transmit.specs.declared.Sought.{Sought}
-use Rattle.transmit.specs.Memory.{sn, segment_of, seen, flying_numbers, number_in, ends_at, ends_in, sought, Ends}
+use Rattle.transmit.specs.Memory.{sn, segment_of, seen, flying_numbers, number_in, ends_at, ends_in, sought, found_at}
 
 -- ---- those at the n indices from i on
 
@@ -235,6 +236,11 @@ module _ (x : ℕ) (r : SndRing) (m : Store) (i : ℕ) where
   pub ends-live : ends_in x r m i ≡ true → mark ≡ 0 → ⊥
   ends-live e z = let f = sym e ∙ gap_on z in let y : ◌≡◌ {A = ℕ} 0 1 = cc in absurd (omega arith)
 
+-- where the search ends, and whether the number stands there
+pub record Ends (x : ℕ) (r : SndRing) (m : Store) (at : ℕ) (met : Bool) : Type 0 where
+  pub at_is : at ≡ sought x r m 0 r.reach
+  pub met_is : met ≡ meets x (flying_numbers r m)
+
 -- from index i on it ends where the whole of it does, and meets what the whole of it meets
 pub record Onward (x : ℕ) (r : SndRing) (m : Store) (i : ℕ) : Type 0 where
   pub ends : sought x r m i (r.reach - i) ≡ sought x r m 0 r.reach
@@ -246,14 +252,14 @@ module _ (x : ℕ) (r : SndRing) (m : Store) where
 
   module _ (i : ℕ) (o : Onward x r m i) where
     -- it ends here
-    ends-at : (t : Bool) → sought x r m i (r.reach - i) ≡ i → meets x (left_from r m i) ≡ t → Ends x r m (record { at = i; met = t })
+    ends-at : (t : Bool) → sought x r m i (r.reach - i) ≡ i → meets x (left_from r m i) ≡ t → Ends x r m i t
     ends-at t e f = record { at_is = sym e ∙ o.ends; met_is = sym f ∙ o.met }
 
     -- or goes on
     goes_on : sought x r m i (r.reach - i) ≡ sought x r m (i + 1) (r.reach - (i + 1)) → meets x (left_from r m i) ≡ meets x (left_from r m (i + 1)) → Onward x r m (i + 1)
     goes_on e f = record { ends = sym e ∙ o.ends; met = sym f ∙ o.met }
 
-    pub ends_none : r.reach ≤ i → Ends x r m (record { at = i; met = false })
+    pub ends_none : r.reach ≤ i → Ends x r m i false
     ends_none h = let e : r.reach - i ≡ 0 = omega arith in ends-at false (rw e (sought_none x r m i)) (rw (left_none r m i h) (meets_none x))
 
     module _ (h : i < r.reach) where
@@ -268,10 +274,10 @@ module _ (x : ℕ) (r : SndRing) (m : Store) where
           (λ d. rw (left-live r m i h z) (meets_on x _ _ d (sym (other-ends x r m i z d) ∙ e)))))
 
       module _ (e : ends_in x r m i ≡ true) where
-        pub ends-here : number_in r m i sn ≡ x → Ends x r m (record { at = i; met = true })
+        pub ends-here : number_in r m i sn ≡ x → Ends x r m i true
         ends-here f = ends-at true (rw (less r m i h) (sought-here x r m i (r.reach - suc i) e)) (rw (left-live r m i h (ends-live x r m i e)) (meets-here x _ _ f))
 
-        pub ends-stop : (number_in r m i sn ≡ x → ⊥) → Ends x r m (record { at = i; met = false })
+        pub ends-stop : (number_in r m i sn ≡ x → ⊥) → Ends x r m i false
         ends-stop d =
             let live = ends-live x r m i e in
             ends-at false (rw (less r m i h) (sought-here x r m i (r.reach - suc i) e)) (rw (left-live r m i h live) (meets-stop x _ _ d (sym (other-ends x r m i live d) ∙ e)))
@@ -287,12 +293,42 @@ unfolding sought ends_at
 sought-room x r k l a b i zero = refl
 sought-room x r k l a b i (suc n) = rw (sought-room x r k l a b (suc i) n)
 
-pub ends-room : (x : ℕ) (r : SndRing) (records a b : List ℕ) (o : Sought) → Ends x r (store_of 8 (lists records a)) o → Ends x r (store_of 8 (lists records b)) o
+ends-room : (x : ℕ) (r : SndRing) (records a b : List ℕ) (at : ℕ) (met : Bool) → Ends x r (store_of 8 (lists records a)) at met → Ends x r (store_of 8 (lists records b)) at met
 unfolding store_of
-ends-room x r records a b o e = record {
+ends-room x r records a b at met e = record {
   at_is = e.at_is ∙ sought-room x r _ _ a b 0 r.reach;
   met_is = e.met_is ∙ ap (meets x) (numbers-room r records a b);
 }
+
+-- what the search answers, with any room
+module _ (x : ℕ) (r : SndRing) (records : List ℕ) (at : ℕ) (room : List ℕ) where
+  pub finds : Ends x r (store_of 8 (lists records [])) at true → Some at ≡ found_at x r (store_of 8 (lists records room))
+  unfolding found_at
+  finds e =
+      let f = ends-room x r records [] room at true e in
+      ap (λ (i : ℕ). Some i) f.at_is ∙ sym (pick_true _ _ (sym f.met_is))
+
+  pub finds_none : Ends x r (store_of 8 (lists records [])) at false → None ≡ found_at x r (store_of 8 (lists records room))
+  unfolding found_at
+  finds_none e = sym (pick-false _ _ (sym (ends-room x r records [] room at false e).met_is))
+
+-- and what an answer says
+module _ (x : ℕ) (r : SndRing) (m : Store) where
+  pub unmet : None ≡ found_at x r m → meets x (flying_numbers r m) ≡ false
+  unfolding found_at pick
+  unmet e = go (meets x (flying_numbers r m)) refl e
+    where
+      go : (t : Bool) → meets x (flying_numbers r m) ≡ t → None ≡ pick t (Some (sought x r m 0 r.reach)) None → meets x (flying_numbers r m) ≡ false
+      go true f g = cc
+      go false f g = f
+
+  pub met-at : (i : ℕ) → Some i ≡ found_at x r m → Ends x r m i true
+  unfolding found_at pick
+  met-at i e = go (meets x (flying_numbers r m)) refl e
+    where
+      go : (t : Bool) → meets x (flying_numbers r m) ≡ t → Some i ≡ pick t (Some (sought x r m 0 r.reach)) None → Ends x r m i true
+      go true f g = record { at_is = cc; met_is = sym f }
+      go false f g = cc
 
 -- ---- where the number is met: at index j, a segment in flight, with as many before it as the search over the list passes
 

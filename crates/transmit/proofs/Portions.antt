@@ -10,7 +10,7 @@ use lib.Seq.{get_or-set_same, get_or-set_other}
 use borrow.Author.Tests.{eq-eqb, ne_eqb}
 use Rattle.ring.specs.Lists.{lists}
 use Rattle.ring.specs.Places.{place}
-use Rattle.ring.proofs.Places.{place-low, place-high}
+use Rattle.ring.proofs.Places.{by_less, place-low, place-high}
 use Rattle.ring.proofs.Rows.{put_one}
 use Rattle.snd_ring.specs.declared.SndRing.{SndRing}
 use Rattle.snd_ring.specs.Store.{Store, store, store_of}
@@ -18,7 +18,7 @@ use Rattle.snd_ring.specs.Steps.{renumbered}
 use Rattle.snd_ring.proofs.Marks.{by-live}
 use Rattle.snd_ring.proofs.Splits.{marks-length, rows-length, mark-read}
 use Rattle.sending.specs.declared.Flight.{Flight}
-use Rattle.sending.specs.Flights.{raised_flight, raise_first}
+use Rattle.sending.specs.Flights.{raised_flight, raised_flights}
 use Rattle.transmit.specs.Memory.{fastack, raised_one, raised_from}
 use Rattle.transmit.proofs.Numbers.{by_eq, rows-room}
 use Rattle.transmit.specs.Portions.{flight_at, none, Gathered, written_back, put_back, raised_run}
@@ -59,7 +59,7 @@ module _ (f : Flight) (q : ℕ) (m : Store) where
         ))
 
 -- what `put_one` finds and leaves
-module _ (f : Flight) (a room : List ℕ) (q : ℕ) {slots : ℕ} (e : slots ≡ length a / 9) (inside : q < slots) where
+module _ (f : Flight) (a room : List ℕ) (q : ℕ) (inside : q < length a / 9) where
   abbrev here : Store
   here = store_of 8 (lists a room)
 
@@ -99,11 +99,10 @@ module _ (ack late : ℕ) where
   step = raised_flight ack late
 
   -- the walk's record j
-  walked_at : (n j : ℕ) (fs : List Flight) → j < n → n ≤ length fs → get_or (raise_first n ack late fs) j none ≡ step (get_or fs j none)
-  walked_at zero j fs h l = absurd (omega arith)
-  walked_at (suc n) j [] h l = absurd (omega arith)
-  walked_at (suc n) zero (x ∷ fs) h l = refl
-  walked_at (suc n) (suc j) (x ∷ fs) h l = walked_at n j fs (omega arith) (omega arith)
+  walked_at : (j : ℕ) (fs : List Flight) → j < length fs → get_or (raised_flights ack late fs) j none ≡ step (get_or fs j none)
+  walked_at j [] h = absurd (omega arith)
+  walked_at zero (x ∷ fs) h = refl
+  walked_at (suc j) (x ∷ fs) h = walked_at j fs (omega arith)
 
   -- the places from record j's on are what the walk's records from there on say
   back-run : (gs : List Flight) (q j n : ℕ) (m : Store) → (q + j + n) * 8 ≤ length m.rows
@@ -120,19 +119,15 @@ module _ (ack late : ℕ) where
       ∙ ap (λ (p : ℕ). raised_run ack late p n m') e
 
   -- the records fs were gathered of the memory a, the walk made them gs, and k is the memory once they are back
-  pub part-done : (a : List ℕ) {slots : ℕ} (q n : ℕ) → slots ≡ length a / 9 → q + n ≤ slots → (fs : List Flight) {gs : List Flight} → n ≤ length fs → Gathered (store_of 8 (lists a [])) q n fs
-      → gs ≡ raise_first n ack late fs → (room : List ℕ) {k : Store} → k ≡ put_back gs q 0 n (store_of 8 (lists a room)) → k ≡ raised_run ack late q n (store_of 8 (lists a room))
-  part-done a q n e h fs l g d room f =
+  pub part-done : (a : List ℕ) (q n : ℕ) → q + n ≤ length a / 9 → (fs : List Flight) {gs : List Flight} → length fs ≡ n → Gathered (store_of 8 (lists a [])) q n fs
+      → gs ≡ raised_flights ack late fs → (room : List ℕ) {k : Store} → k ≡ put_back gs q 0 n (store_of 8 (lists a room)) → k ≡ raised_run ack late q n (store_of 8 (lists a room))
+  part-done a q n h fs l g d room f =
       let m = store_of 8 (lists a room) in
       let z : q + 0 ≡ q = omega arith in
       let w = rows-length 8 (lists a room) in
       f ∙ back-run _ q 0 n m (omega arith)
-      (λ j _ b. ap (λ (y : List Flight). get_or y j none) d ∙ walked_at n j fs (omega arith) l ∙ ap step (g j (omega arith) ∙ ap (λ (y : List ℕ). flight_at (store [] y []) (q + j)) (rows-room a [] room)))
+      (λ j _ b. ap (λ (y : List Flight). get_or y j none) d ∙ walked_at j fs (omega arith) ∙ ap step (g j (omega arith) ∙ ap (λ (y : List ℕ). flight_at (store [] y []) (q + j)) (rows-room a [] room)))
       ∙ ap (λ (p : ℕ). raised_run ack late p n m) z
-
-  pub part_none : (q n : ℕ) (m : Store) → n ≡ 0 → m ≡ raised_run ack late q n m
-  unfolding raised_run
-  part_none q n m z = rw z
 
   -- ---- portions make a run
 
@@ -156,6 +151,13 @@ module _ (ack late : ℕ) where
   pub run_end : (q to : ℕ) (m : Store) → to ≤ q → raised_run ack late q (to - q) m ≡ m
   unfolding raised_run
   run_end q to m h = let e : to - q ≡ 0 = omega arith in rw e
+
+  -- the same by steps of 64, the last of which is cut to what is left
+  pub run_step : (q n to : ℕ) (m : Store) → n ≡ min (to - q) 64 → {k : Store} → k ≡ raised_run ack late q n m → raised_run ack late (q + 64) (to - (q + 64)) k ≡ raised_run ack late q (to - q) m
+  run_step q n to m e {k} d =
+      by_less 64 (to - q)
+      (λ h. let f : n ≡ 64 = omega arith in run_more q 64 to m (omega arith) (rw f at d))
+      (λ h. let f : n ≡ to - q = omega arith in run_end (q + 64) to k (omega arith) ∙ rw f at d)
 
   -- ---- a run, or two, are the indices in flight
 

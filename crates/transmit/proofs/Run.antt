@@ -7,6 +7,7 @@ use mathlib.Core.List.{List, []}
 use lib.ListN.{length, get_or}
 use lib.Dec.{eqb}
 use borrow.Author.Tests.{eq-eqb, ne_eqb}
+use Rattle.std.proofs.Common.{Some, None}
 use Rattle.ring.specs.Lists.{lists}
 use Rattle.ring.specs.Places.{place}
 use Rattle.ring.specs.Records.{number_at}
@@ -16,12 +17,12 @@ use Rattle.snd_ring.specs.Store.{Store, store_of}
 use Rattle.snd_ring.proofs.Marks.{by-live}
 use Rattle.snd_ring.proofs.Splits.{marks-length, mark-read}
 use Rattle.sending.specs.Rules.{stops}
-use Rattle.transmit.specs.Memory.{sn, number_in, ends_at, ends_in, First, Ends}
-use Rattle.transmit.proofs.Numbers.{by_eq, onward_to, ends_none, ends-here, ends-stop, ends-room, number_is}
+use Rattle.transmit.specs.Memory.{sn, number_in, ends_at, ends_in, found_at, First}
+use Rattle.transmit.proofs.Numbers.{by_eq, onward_to, ends_none, ends-here, ends-stop, finds, finds_none, number_is}
 
 -- ---- what the code reads at place q tells whether the search ends there
 
-module _ (x : ℕ) (a : List ℕ) (q : ℕ) {slots : ℕ} (e : slots ≡ length a / 9) (inside : q < slots) where
+module _ (x : ℕ) (a : List ℕ) (q : ℕ) (inside : q < length a / 9) where
   abbrev m : Store
   m = store_of 8 (lists a [])
 
@@ -102,18 +103,18 @@ module _ (x : ℕ) (r : SndRing) (a : List ℕ) (k : ℕ) (o : First (ends_in x 
   abbrev here : Store
   here = store_of 8 (lists a [])
 
-  pub none-met : r.reach ≤ k → (room : List ℕ) → Ends x r (store_of 8 (lists a room)) (record { at = k; met = false })
-  none-met h room = ends-room x r a [] room _ (ends_none x r here k (onward_to x r here k o.high (λ j l. o.passed j (omega arith) l)) h)
+  pub none-met : r.reach ≤ k → (room : List ℕ) → None ≡ found_at x r (store_of 8 (lists a room))
+  none-met h room = finds_none x r a k room (ends_none x r here k (onward_to x r here k o.high (λ j l. o.passed j (omega arith) l)) h)
 
   -- q is the place of k, and n the number there
   module _ (h : k < r.reach) {slots q : ℕ} (e : slots ≡ length a / 9) (p : (q ≡ place slots r.start k) × (q < slots)) {n : ℕ} (d : n ≡ number_at 8 here.rows q sn) where
     number-there : n ≡ number_in r here k sn
     number-there = d ∙ number_is r a [] k e p sn
 
-    pub is-met : n ≡ x → (room : List ℕ) → Ends x r (store_of 8 (lists a room)) (record { at = k; met = true })
+    pub is-met : n ≡ x → (room : List ℕ) → Some k ≡ found_at x r (store_of 8 (lists a room))
     is-met f room =
-        ends-room x r a [] room _ (ends-here x r here k (onward_to x r here k o.high (λ j l. o.passed j (omega arith) l)) h (o.ended h) (sym number-there ∙ f))
+        finds x r a k room (ends-here x r here k (onward_to x r here k o.high (λ j l. o.passed j (omega arith) l)) h (o.ended h) (sym number-there ∙ f))
 
-    pub is_past : (n ≡ x → ⊥) → (room : List ℕ) → Ends x r (store_of 8 (lists a room)) (record { at = k; met = false })
+    pub is_past : (n ≡ x → ⊥) → (room : List ℕ) → None ≡ found_at x r (store_of 8 (lists a room))
     is_past f room =
-        ends-room x r a [] room _ (ends-stop x r here k (onward_to x r here k o.high (λ j l. o.passed j (omega arith) l)) h (o.ended h) (λ g. f (number-there ∙ g)))
+        finds_none x r a k room (ends-stop x r here k (onward_to x r here k o.high (λ j l. o.passed j (omega arith) l)) h (o.ended h) (λ g. f (number-there ∙ g)))

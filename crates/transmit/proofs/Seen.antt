@@ -27,8 +27,9 @@ use Rattle.snd_ring.proofs.Fronts.{loosened, drop-flight, drop-waiting, drop-sou
 use Rattle.snd_ring.proofs.Renumbers.{numbered, number-own, number-other, renumber-sound}
 use Rattle.block.specs.declared.sender.Sender.{Sender}
 use Rattle.block.specs.Parts.{with_snd_ring}
-use Rattle.sending.specs.declared.Latest.{Latest}
-use Rattle.sending.specs.Rules.{Segment, Sending, with_flying, acknowledged_by, shrunk, parse_una, in_range, seek, meets, found, parse_ack, fastack_of, raised, counts, parse_fastack}
+use Rattle.std.proofs.Common.{Option, Some, None}
+use Rattle.sending.specs.declared.Ack.{Ack}
+use Rattle.sending.specs.Rules.{Segment, Sending, with_flying, acknowledged_by, shrunk, parse_una, in_range, seek, meets, found, parse_ack, fastack_of, raised, parse_fastack}
 use Rattle.transmit.specs.Memory.{sn, ts, fastack, segment_of, seen, flying_numbers, number_in, Side, side, shrunk_at, una_at, sought, removed_at, shrunk_side, ack_at, raised_one, raised_from, fastack_at}
 use Rattle.transmit.proofs.Numbers.{seen_first, flying-numbers, Met, sought_is}
 
@@ -319,17 +320,9 @@ module _ (ack late : ℕ) (r : SndRing) where
 
 -- ---- `parse_fastack`
 
-module _ (l : Latest) (s : Sender) (m : Store) (o : Sound 8 s.ring m) where
+module _ (l : Ack) (s : Sender) (m : Store) (o : Sound 8 s.ring m) where
   abbrev walked : Store
   walked = raised_from l.sn l.ts s.ring 0 s.ring.reach m
-
-  abbrev counted : Bool
-  counted = counts l s.snd_una s.snd_nxt
-
-  -- what holds of the one side and of the other holds of the outcome
-  fastack_by : (P : Store → Type 0) → (counted ≡ true → P walked) → (counted ≡ false → P m) → P (fastack_at l s m)
-  unfolding fastack_at
-  fastack_by P a b = pick_by P counted walked m a b
 
   walked-flight : map segment_of (flight_of 8 s.ring walked) ≡ map (raised l.sn l.ts) (map segment_of (flight_of 8 s.ring m))
   unfolding flight_of
@@ -347,21 +340,31 @@ module _ (l : Latest) (s : Sender) (m : Store) (o : Sound 8 s.ring m) where
   unfolding seen
   seen-walked = rw (walked-flight, walked-waiting)
 
-  pub seen-fastack : seen s (fastack_at l s m) ≡ parse_fastack l (seen s m)
-  unfolding parse_fastack
-  seen-fastack =
-      fastack_by (λ (y : Store). seen s y ≡ cond counted (with_flying (seen s m) (map (raised l.sn l.ts) (seen s m).flying)) (seen s m)) (λ e. rw e seen-walked) (λ e. rw e)
-      ∙ rw ((seen_same s m).0, (seen_same s m).1)
+pub seen-fastack : (l : Option Ack) (s : Sender) (m : Store) → Sound 8 s.ring m → seen s (fastack_at l s m) ≡ parse_fastack l (seen s m)
+unfolding fastack_at parse_fastack
+seen-fastack None s m o = refl
+seen-fastack (Some l) s m o =
+    pick_by (λ (y : Store). seen s y ≡ cond (in_range s.snd_una s.snd_nxt l.sn) (with_flying (seen s m) (map (raised l.sn l.ts) (seen s m).flying)) (seen s m))
+    (in_range s.snd_una s.snd_nxt l.sn) (walked l s m o) m (λ e. rw e (seen-walked l s m o)) (λ e. rw e)
+    ∙ rw ((seen_same s m).0, (seen_same s m).1)
 
+-- what holds of the memory walked, by any ack, and as it was, holds of the outcome
+fastack_by : (l : Option Ack) (s : Sender) (m : Store) (P : Store → Type 0) → ((a : Ack) → P (raised_from a.sn a.ts s.ring 0 s.ring.reach m)) → P m → P (fastack_at l s m)
+unfolding fastack_at
+fastack_by None s m P f p = p
+fastack_by (Some l) s m P f p =
+    pick_by P (in_range s.snd_una s.snd_nxt l.sn) (raised_from l.sn l.ts s.ring 0 s.ring.reach m) m (λ e. f l) (λ e. p)
+
+module _ (l : Option Ack) (s : Sender) (m : Store) (o : Sound 8 s.ring m) where
   pub fastack-sound : Sound 8 s.ring (fastack_at l s m)
-  fastack-sound = fastack_by (Sound 8 s.ring) (λ e. walk-sound l.sn l.ts s.ring 0 s.ring.reach m o (omega arith)) (λ e. o)
+  fastack-sound = fastack_by l s m (Sound 8 s.ring) (λ a. walk-sound a.sn a.ts s.ring 0 s.ring.reach m o (omega arith)) o
 
   -- marks and room stay
   fastack-marks : (fastack_at l s m).marks ≡ m.marks
-  fastack-marks = fastack_by (λ (y : Store). y.marks ≡ m.marks) (λ e. walk-marks l.sn l.ts s.ring 0 s.ring.reach m) (λ e. refl)
+  fastack-marks = fastack_by l s m (λ (y : Store). y.marks ≡ m.marks) (λ a. walk-marks a.sn a.ts s.ring 0 s.ring.reach m) refl
 
   fastack-room : (fastack_at l s m).room ≡ m.room
-  fastack-room = fastack_by (λ (y : Store). y.room ≡ m.room) (λ e. walk-room l.sn l.ts s.ring 0 s.ring.reach m) (λ e. refl)
+  fastack-room = fastack_by l s m (λ (y : Store). y.room ≡ m.room) (λ a. walk-room a.sn a.ts s.ring 0 s.ring.reach m) refl
 
   pub fastack-slots : AsLarge m (fastack_at l s m)
   fastack-slots = record {

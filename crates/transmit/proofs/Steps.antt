@@ -1,12 +1,13 @@
 -- What the steps of the code ask and give, in the words of `specs/Memory.antt`. Assumes nothing.
 use Prim.Native.Nat.{ℕ, ◌+◌, ◌-◌, ◌/◌, ◌≤◌, ◌<◌}
 use native.Mathlib.Omega.{arith}
-use mathlib.Core.Path.{◌≡◌, sym, ap, ◌∙◌, subst}
+use mathlib.Core.Path.{◌≡◌, refl, sym, ap, ◌∙◌, subst}
 use mathlib.Core.Bool.{Bool, true, false, not}
 use mathlib.Core.List.{List, []}
 use lib.ListN.{length, take, drop}
 use borrow.Author.Tests.{not-true, not-false}
 use Rattle.serial.specs.Branch.{pick_true, pick-false}
+use Rattle.std.proofs.Common.{Some, None}
 use Rattle.ring.specs.Lists.{lists}
 use Rattle.ring.specs.Records.{number_at}
 use Rattle.snd_ring.specs.declared.SndRing.{SndRing}
@@ -15,12 +16,11 @@ use Rattle.snd_ring.specs.Steps.{dropped, gapped, taken_out, with_marks}
 use Rattle.snd_ring.proofs.Splits.{marks-length, part-marks}
 use Rattle.block.specs.declared.sender.Sender.{Sender}
 use Rattle.block.specs.Parts.{with_snd_ring, with_una}
-use Rattle.sending.specs.declared.Latest.{Latest}
-use Rattle.sending.specs.Rules.{acknowledged_by, una_of, in_range, found, counts}
-use Rattle.transmit.specs.declared.Sought.{Sought}
-use Rattle.transmit.specs.Memory.{sn, flying_numbers, Side, side, shrunk_at, una_at, sought, Ends, removed_at, shrunk_side, ack_at, raised_from, fastack_at}
-use Rattle.transmit.specs.Fits.{Lies}
-use Rattle.transmit.proofs.Numbers.{numbers-room, rows-room, una_none, una-front}
+use Rattle.sending.specs.declared.Ack.{Ack}
+use Rattle.sending.specs.Rules.{acknowledged_by, una_of, in_range, found}
+use Rattle.transmit.specs.Memory.{sn, flying_numbers, Side, side, shrunk_at, una_at, sought, found_at, removed_at, shrunk_side, ack_at, raised_from, fastack_at}
+use Rattle.transmit.specs.Fits.{Lies, Inside}
+use Rattle.transmit.proofs.Numbers.{numbers-room, rows-room, una_none, una-front, Ends, met-at, unmet as not-met}
 use Rattle.transmit.proofs.Seen.{acknowledged-flying, una-sound, removed-sound, found-flying}
 
 -- ---- what the calls below ask of the memory, and `shrink`
@@ -34,6 +34,9 @@ module _ {s : Sender} {a : List ℕ} (l : Lies s a) where
       let n = marks-length 8 (lists a l.room) in
       let z = l.sound.shaped in
       (let h = z.sized.most in omega arith, let h = z.inside in omega arith, let h = z.many in omega arith)
+
+  pub inside : Inside s.ring a
+  inside = let w = asks in record { many = w.0; started = w.1; reached = omega arith }
 
   pub shrunk_none : s.ring.reach ≡ 0 → (room : List ℕ) → with_una s s.snd_nxt ≡ shrunk_at s (store_of 8 (lists a room))
   unfolding shrunk_at
@@ -81,29 +84,32 @@ module _ {s : Sender} {a : List ℕ} (l : Lies s a) where
       unfolding found
       ack-out h = unmet (rw (← e, not-true t h))
 
-      pub ack-unmet : not t ≡ false → {o : Sought} → ((room : List ℕ) → Ends x s.ring (store_of 8 (lists a room)) o) → not o.met ≡ true
+      pub ack-unmet : not t ≡ false → ((room : List ℕ) → None ≡ found_at x s.ring (store_of 8 (lists a room)))
           → side r (store_of 8 (lists a room)) ≡ ack_at x s (store_of 8 (lists a room))
       unfolding found
-      ack-unmet h {o} g n = unmet (rw (← e, not-false t h, ← (g room).met_is, not-true o.met n))
+      ack-unmet h g = unmet (rw (← e, not-false t h, not-met x s.ring _ (g room)))
 
-    module _ (h : not t ≡ false) {o : Sought} (g : (room : List ℕ) → Ends x s.ring (store_of 8 (lists a room)) o) (n : not o.met ≡ false) where
+    module _ (h : not t ≡ false) {i : ℕ} (g : (room : List ℕ) → Some i ≡ found_at x s.ring (store_of 8 (lists a room))) where
+      ends : (room : List ℕ) → Ends x s.ring (store_of 8 (lists a room)) i true
+      ends room = met-at x s.ring _ i (g room)
+
       is_found_lem : (room : List ℕ) → is_found room ≡ true
       unfolding found
-      is_found_lem room = rw (← e, not-false t h, ← (g room).met_is, not-false o.met n)
+      is_found_lem room = rw (← e, not-false t h, ← (ends room).met_is)
 
-      pub ack-at : (o.at < s.ring.reach) × (0 < s.ring.flying)
+      pub ack-at : (i < s.ring.reach) × (0 < s.ring.flying)
       ack-at =
-          let i = (g l.room).at_is in
+          let k = (ends l.room).at_is in
           let f = found-flying x s m l.sound (is_found_lem l.room) in
           (omega arith, omega arith)
 
       -- the ring u and the records b after it, and the sender v with the ring
       module _ {u : SndRing} (b : List ℕ)
-          (d : (room : List ℕ) → (u ≡ taken_out s.ring (store_of 8 (lists a room)).marks o.at) × (store_of 8 (lists b room) ≡ with_marks (store_of 8 (lists a room)) (gapped s.ring (store_of 8 (lists a room)).marks o.at)))
+          (d : (room : List ℕ) → (u ≡ taken_out s.ring (store_of 8 (lists a room)).marks i) × (store_of 8 (lists b room) ≡ with_marks (store_of 8 (lists a room)) (gapped s.ring (store_of 8 (lists a room)).marks i)))
           {v : Sender} (w : v ≡ with_snd_ring s u) where
         removed_by : (room : List ℕ) → side v (store_of 8 (lists b room)) ≡ removed_at (sought x s.ring (store_of 8 (lists a room)) 0 s.ring.reach) s (store_of 8 (lists a room))
         unfolding removed_at
-        removed_by room = rw (w, (d room).0, (d room).1, (g room).at_is)
+        removed_by room = rw (w, (d room).0, (d room).1, (ends room).at_is)
 
         pub ack_left : Lies v b
         ack_left = record {
@@ -119,11 +125,15 @@ module _ {s : Sender} {a : List ℕ} (l : Lies s a) where
 
 -- ---- `parse_fastack`
 
-module _ (l : Latest) (s : Sender) (m : Store) {t : Bool} (e : t ≡ counts l s.snd_una s.snd_nxt) where
-  pub fastack_yes : t ≡ true → {k : Store} → k ≡ raised_from l.sn l.ts s.ring 0 s.ring.reach m → k ≡ fastack_at l s m
+pub fastack_none : (s : Sender) (k : Store) → k ≡ fastack_at None s k
+unfolding fastack_at
+fastack_none s k = refl
+
+module _ (l : Ack) (s : Sender) (m : Store) {t : Bool} (e : t ≡ in_range s.snd_una s.snd_nxt l.sn) where
+  pub fastack_yes : t ≡ true → {k : Store} → k ≡ raised_from l.sn l.ts s.ring 0 s.ring.reach m → k ≡ fastack_at (Some l) s m
   unfolding fastack_at
   fastack_yes h d = d ∙ sym (pick_true _ _ (sym e ∙ h))
 
-  pub fastack_no : t ≡ false → m ≡ fastack_at l s m
+  pub fastack_no : t ≡ false → m ≡ fastack_at (Some l) s m
   unfolding fastack_at
   fastack_no h = sym (pick-false _ _ (sym e ∙ h))

@@ -1,5 +1,5 @@
 -- The memory functions at small closed cases. Assumes nothing.
-use Rattle.std.specs.Prelude.{ℕ, ◌≡◌, refl, true, false, List, [], ◌∷◌, ◌++◌}
+use Rattle.std.specs.Prelude.{ℕ, ◌≡◌, refl, false, List, [], ◌∷◌, ◌++◌, Some}
 use Rattle.serial.specs.Branch.{pick}
 use Rattle.ring.specs.Counting.{at_least}
 use Rattle.ring.specs.Places.{place, along}
@@ -10,8 +10,8 @@ use Rattle.snd_ring.specs.Store.{Store, store, cell, flight_of}
 use Rattle.snd_ring.specs.Store as memory
 use Rattle.snd_ring.specs.Steps.{ring, settled, advanced, dropped, gapped, taken_out}
 use Rattle.block.specs.declared.sender.Sender.{Sender}
-use Rattle.sending.specs.Rules.{acknowledged_by, una_of, in_range, seek, meets, found, gains, fastack_of, counts}
-use Rattle.sending.specs.Flights.{raise_first}
+use Rattle.sending.specs.Rules.{acknowledged_by, una_of, in_range, seek, meets, found, gains, fastack_of}
+use Rattle.sending.specs.Flights.{raised_flights}
 use Rattle.transmit.specs.Portions.{flight_at, written_back, put_back, raised_run}
 use Rattle.transmit.specs.Memory.{flying_numbers, side, shrunk_at, una_at, ends_at, sought, removed_at, shrunk_side, ack_at, raised_one, raised_from, fastack_at}
 
@@ -60,8 +60,8 @@ unfolding ack_at shrunk_side pick removed_at shrunk_at found in_range meets seek
 none = refl
 
 -- a fastack for 13 raises 10 and 11, and passes the gap
-raised : fastack_at (record { seen = true; sn = 13; ts = 100 }) (sender 10 (ring 3 4 3 0)) (four flying 0) ≡ four flying 1
-unfolding fastack_at pick counts in_range raised_from raised_one fastack_of gains place put sender four flying row
+raised : fastack_at (Some (record { sn = 13; ts = 100 })) (sender 10 (ring 3 4 3 0)) (four flying 0) ≡ four flying 1
+unfolding fastack_at pick in_range raised_from raised_one fastack_of gains place put sender four flying row
 raised = refl
 
 -- the same by the two runs of its places, of which place 1 is a gap, and by the records of the second run once the walk has raised them
@@ -69,6 +69,6 @@ by_runs : raised_run 13 100 0 3 (raised_run 13 100 3 1 (four flying 0)) ≡ four
 unfolding raised_run written_back fastack_of gains pick put four flying row
 by_runs = refl
 
-by_records : put_back (raise_first 3 13 100 (flight_at (four flying 0) 0 ∷ flight_at (four flying 0) 1 ∷ flight_at (four flying 0) 2 ∷ [])) 0 0 3 (raised_run 13 100 3 1 (four flying 0)) ≡ four flying 1
+by_records : put_back (raised_flights 13 100 (flight_at (four flying 0) 0 ∷ flight_at (four flying 0) 1 ∷ flight_at (four flying 0) 2 ∷ [])) 0 0 3 (raised_run 13 100 3 1 (four flying 0)) ≡ four flying 1
 unfolding put_back raised_run written_back fastack_of gains pick put four flying row
 by_records = refl

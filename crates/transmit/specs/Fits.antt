@@ -1,7 +1,8 @@
 -- "15 | BadPool | block or lent memory not well formed, or a size outside the limits", as far as the send memory goes: what every call that is
 -- handed it tests; and the same facts as the calls below the test use them. Assumes nothing.
-use Rattle.std.specs.Prelude.{ℕ, Bool, ◌&&◌, List, length}
+use Rattle.std.specs.Prelude.{ℕ, ◌/◌, ◌≤◌, ◌<◌, Bool, ◌&&◌, List, length}
 use Rattle.ring.specs.Lists.{Lists, lists}
+use Rattle.snd_ring.specs.declared.SndRing.{SndRing}
 use Rattle.snd_ring.specs.Store.{store_of, Marked, marks_fit, Sound}
 use Rattle.block.specs.declared.sender.Sender.{Sender}
 use Rattle.block.specs.declared.Kcp.{Kcp}
@@ -32,3 +33,9 @@ pub record SendFits (k : Kcp) (l : Lists) : Type 0 where
 pub record Lies (s : Sender) (records : List ℕ) : Type 0 where
   pub room : List ℕ
   pub sound : Sound 8 s.ring (store_of 8 (lists records room))
+
+-- what a walk over the places in flight needs of them: the ring starts and ends within its slots, of which there are few
+pub record Inside (r : SndRing) (records : List ℕ) : Type 0 where
+  pub many : length records / 9 ≤ 65535
+  pub started : r.start < length records / 9
+  pub reached : r.reach ≤ length records / 9

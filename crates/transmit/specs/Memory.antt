@@ -1,7 +1,7 @@
 -- What una, acks and fastack do to the block's numbers and to the lent memory, every number and byte: the memory functions of `parse_una`,
 -- `parse_ack` and `parse_fastack`. The decisions are those of the rules (sending/specs/Rules), asked of the numbers in the ring.
 -- A row has eight numbers: conv, frg, sn, ts, resendts, rto, fastack, xmit. Assumes nothing.
-use Rattle.std.specs.Prelude.{ℕ, zero, suc, ◌≤◌, ◌<◌, ◌≡◌, Bool, true, false, not, cond, ◌&&◌, ◌||◌, List, map, length, get_or, eqb}
+use Rattle.std.specs.Prelude.{ℕ, zero, suc, ◌≤◌, ◌<◌, ◌≡◌, Bool, true, false, not, cond, ◌&&◌, ◌||◌, List, map, length, get_or, eqb, Option, Some, None}
 use Rattle.serial.specs.Branch.{pick}
 use Rattle.ring.specs.Records.{number_at}
 use Rattle.ring.specs.Places.{place}
@@ -11,9 +11,8 @@ use Rattle.snd_ring.specs.Store.{Store, Stored, flight_of, waiting_of}
 use Rattle.snd_ring.specs.Steps.{dropped, gapped, taken_out, with_marks, renumbered}
 use Rattle.block.specs.declared.sender.Sender.{Sender}
 use Rattle.block.specs.Parts.{with_snd_ring, with_una}
-use Rattle.sending.specs.declared.Latest.{Latest}
-use Rattle.sending.specs.Rules.{Segment, Sending, acknowledged_by, una_of, stops, meets, found, counts, fastack_of}
-use Rattle.transmit.specs.declared.Sought.{Sought}
+use Rattle.sending.specs.declared.Ack.{Ack}
+use Rattle.sending.specs.Rules.{Segment, Sending, acknowledged_by, una_of, stops, in_range, meets, found, fastack_of}
 
 -- ---- the columns of a row
 
@@ -108,10 +107,9 @@ pub record First (ends : ℕ → Bool) (from to k : ℕ) : Type 0 where
   pub passed : (q : ℕ) → from ≤ q → q < k → ends q ≡ false
   pub ended : k < to → ends k ≡ true
 
--- what the search answers: its end, and whether the number stands there
-pub record Ends (x : ℕ) (r : SndRing) (m : Store) (o : Sought) : Type 0 where
-  pub at_is : o.at ≡ sought x r m 0 r.reach
-  pub met_is : o.met ≡ meets x (flying_numbers r m)
+-- what the search answers: its end, if the number stands there
+unfoldable pub found_at : ℕ → SndRing → Store → Option ℕ
+found_at x r m = pick (meets x (flying_numbers r m)) (Some (sought x r m 0 r.reach)) None
 
 -- the segment at index i is taken out
 unfoldable pub removed_at : ℕ → Sender → Store → Side
@@ -136,5 +134,6 @@ unfoldable pub raised_from : ℕ → ℕ → SndRing → ℕ → ℕ → Store �
 raised_from max_ack latest_ts r i zero m = m
 raised_from max_ack latest_ts r i (suc n) m = raised_from max_ack latest_ts r (suc i) n (raised_one max_ack latest_ts r i m)
 
-unfoldable pub fastack_at : Latest → Sender → Store → Store
-fastack_at l s m = pick (counts l s.snd_una s.snd_nxt) (raised_from l.sn l.ts s.ring 0 s.ring.reach m) m
+unfoldable pub fastack_at : Option Ack → Sender → Store → Store
+fastack_at None s m = m
+fastack_at (Some l) s m = pick (in_range s.snd_una s.snd_nxt l.sn) (raised_from l.sn l.ts s.ring 0 s.ring.reach m) m

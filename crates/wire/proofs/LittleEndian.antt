@@ -6,7 +6,17 @@ use mathlib.Core.Path.{◌≡◌, refl, sym, ap, ◌∙◌, subst}
 use mathlib.Core.List.{List, [], ◌∷◌, ◌++◌}
 use lib.ListN.{length, get_or, take, drop, length-drop}
 use lib.Seq.{drop-cons, get_or-drop, length-take-le, take-add, drop-drop}
+use Rattle.std.specs.Int.{w16, w32, to_le_bytes}
 use Rattle.wire.specs.LittleEndian.{number, le_at, le_bytes, Octets}
+
+-- the bytes as std's method makes them
+pub le_two : (x : ℕ) → to_le_bytes w16 x ≡ le_bytes 2 x
+le_two x = refl
+
+pub le_four : (x : ℕ) → to_le_bytes w32 x ≡ le_bytes 4 x
+le_four x =
+    let e : x / 65536 ≡ x / 256 / 256 = omega arith in
+    let f : x / 16777216 ≡ x / 256 / 256 / 256 = omega arith in rw (e, f)
 
 pub length-le_bytes : (n x : ℕ) → length (le_bytes n x) ≡ n
 length-le_bytes zero x = refl

@@ -1,14 +1,11 @@
 -- "16 | ShortHeader | header helpers on under 24 bytes | all as it was".
 -- Assumes nothing.
-use Rattle.std.specs.Prelude.{ℕ, ◌≡◌, List, [], ◌∷◌, ◌++◌, ltb, length, drop}
+use Rattle.std.specs.Prelude.{ℕ, ◌≡◌, List, [], ◌∷◌, ◌++◌, ltb, length, drop, Result, Ok, Err}
 use Rattle.serial.specs.Branch.{pick}
 use Rattle.wire.specs.declared.Header.{Header}
-use Rattle.wire.specs.declared.Number.{Number}
-use Rattle.wire.specs.declared.Number.TheVariants.{Is, ShortHeader}
-use Rattle.wire.specs.declared.Put.{Put}
-use Rattle.wire.specs.declared.Put.TheVariants.{Done, ShortHeader as PutShortHeader}
 use Rattle.wire.specs.LittleEndian.{le_bytes}
 use Rattle.wire.specs.Header.{header_at}
+use Rattle.wire.specs.declared.ShortHeader.{ShortHeader}
 
 -- the number of ShortHeader
 abbrev pub sixteen : ℕ
@@ -18,30 +15,30 @@ sixteen = 16
 unfoldable pub short_header : List ℕ → ℕ
 short_header s = pick (ltb (length s) 24) sixteen 0
 
--- the number of each answer, 0 where nothing is refused, and its values
-abbrev pub number_of : Number → ℕ
-number_of (Is n) = 0
-number_of ShortHeader = sixteen
+-- what is answered under 24 bytes
+abbrev pub under_24 : ShortHeader
+under_24 = record {}
 
-abbrev pub values_of : Number → List ℕ
-values_of (Is n) = n ∷ []
-values_of ShortHeader = []
+-- the number of an answer, 0 where nothing is refused
+abbrev pub number_of : {A : Type 0} → Result A ShortHeader → ℕ
+number_of (Ok x) = 0
+number_of (Err e) = sixteen
 
--- likewise of a helper that sets; neither of its answers carries a value
-abbrev pub number_of_put : Put → ℕ
-number_of_put Done = 0
-number_of_put PutShortHeader = sixteen
+-- its values: the number that is read, and none of a helper that sets
+abbrev pub values_of : Result ℕ ShortHeader → List ℕ
+values_of (Ok n) = n ∷ []
+values_of (Err e) = []
 
-abbrev pub values_of_put : Put → List ℕ
-values_of_put Done = []
-values_of_put PutShortHeader = []
+abbrev pub values_of_put : Result Unit ShortHeader → List ℕ
+values_of_put (Ok x) = []
+values_of_put (Err e) = []
 
 -- a field of the header at the front
-unfoldable pub got : (Header → ℕ) → List ℕ → Number
-got field s = pick (ltb (length s) 24) ShortHeader (Is (field (header_at s 0)))
+unfoldable pub got : (Header → ℕ) → List ℕ → Result ℕ ShortHeader
+got field s = pick (ltb (length s) 24) (Err under_24) (Ok (field (header_at s 0)))
 
 -- what a helper that reads promises of its answer r
-pub record Got (field : Header → ℕ) (s : List ℕ) (r : Number) : Type 0 where
+pub record Got (field : Header → ℕ) (s : List ℕ) (r : Result ℕ ShortHeader) : Type 0 where
   pub answer : r ≡ got field s
   pub refusal : number_of r ≡ short_header s
   pub values : values_of r ≡ pick (ltb (length s) 24) [] (field (header_at s 0) ∷ [])
@@ -50,12 +47,12 @@ pub record Got (field : Header → ℕ) (s : List ℕ) (r : Number) : Type 0 whe
 unfoldable pub with_conv : List ℕ → ℕ → List ℕ
 with_conv s conv = pick (ltb (length s) 24) s (le_bytes 4 conv ++ drop 4 s)
 
-unfoldable pub put_of : List ℕ → Put
-put_of s = pick (ltb (length s) 24) PutShortHeader Done
+unfoldable pub put_of : List ℕ → Result Unit ShortHeader
+put_of s = pick (ltb (length s) 24) (Err under_24) (Ok tt)
 
 -- what `set_conv` promises of its answer r and of the bytes afterwards
-pub record ConvSet (s : List ℕ) (conv : ℕ) (r : Put) (after : List ℕ) : Type 0 where
+pub record ConvSet (s : List ℕ) (conv : ℕ) (r : Result Unit ShortHeader) (after : List ℕ) : Type 0 where
   pub answer : r ≡ put_of s
-  pub refusal : number_of_put r ≡ short_header s
+  pub refusal : number_of r ≡ short_header s
   pub values : values_of_put r ≡ []
   pub bytes : after ≡ with_conv s conv

@@ -1,6 +1,5 @@
 -- "little-endian": a number stands as its bytes, the low one first. Assumes nothing.
-use Rattle.std.specs.Prelude.{ℕ, zero, suc, ◌+◌, ◌*◌, ◌/◌, ◌%◌, ◌<◌, List, [], ◌∷◌, ◌≡◌, get_or, take, drop}
-use Rattle.wire.specs.declared.Four.{Four}
+use Rattle.std.specs.Prelude.{ℕ, zero, suc, ◌+◌, ◌*◌, ◌/◌, ◌%◌, ◌<◌, List, [], ◌∷◌, get_or, take, drop}
 
 -- the number whose bytes are these, the low one first
 abbrev pub number : List ℕ → ℕ
@@ -19,7 +18,3 @@ le_bytes (suc n) x = (x % 256) ∷ le_bytes n (x / 256)
 -- each is a byte, as in any slice of u8
 abbrev pub Octets : List ℕ → Type 0
 Octets l = (k : ℕ) → get_or l k 0 < 256
-
--- the four bytes of x in a row
-pub record Split (x : ℕ) (w : Four) : Type 0 where
-  pub bytes : w.b0 ∷ w.b1 ∷ w.b2 ∷ w.b3 ∷ [] ≡ le_bytes 4 x

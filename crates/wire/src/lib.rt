@@ -1,8 +1,8 @@
 // The segment header: 24 bytes, little-endian, and the helpers that read and set a number of it in raw bytes.
 #![tactic(auto)]
 
-ghost use Rattle.std.specs.Prelude.{◌≡◌, ◌+◌, ◌≤◌, ◌<◌, [], ◌∷◌, length};
-ghost use Rattle.wire.specs.LittleEndian.{number, le_at, Split};
+ghost use Rattle.std.specs.Prelude.{◌≡◌, ◌+◌, ◌≤◌, length};
+ghost use Rattle.wire.specs.LittleEndian.{le_at};
 ghost use Rattle.wire.specs.Header.{header_at, header_bytes, conv_of, sn_of};
 ghost use Rattle.wire.specs.Commands.{command_of, cmd_of};
 ghost use Rattle.wire.specs.Helpers.{Got, ConvSet};
@@ -20,7 +20,7 @@ pub const TELL: u8 = 84;
 pub const OVERHEAD: usize = 24;
 
 // What a segment is for.
-#[derive(Clone, Copy)]
+#[derive(Clone, Copy, Debug, PartialEq, Eq)]
 pub enum Kind {
     Push,
     Ack,
@@ -28,17 +28,20 @@ pub enum Kind {
     Tell,
 }
 
-// What a cmd says: one of the four kinds, or none of them.
-#[derive(Clone, Copy)]
-pub enum Command {
-    Known { kind: Kind },
-    Unknown { cmd: u8 },
+// A cmd that is none of the four.
+#[derive(Clone, Copy, Debug, PartialEq, Eq)]
+pub struct UnsupportedCmd {
+    pub cmd: u8,
 }
 
 // Refusal 16 of the scope document: under 24 bytes.
+#[derive(Clone, Copy, Debug, PartialEq, Eq)]
+pub struct ShortHeader;
+
+// Its number.
 pub const SHORT_HEADER: u32 = 16;
 
-#[derive(Clone, Copy)]
+#[derive(Clone, Copy, Debug, PartialEq, Eq)]
 pub struct Header {
     pub conv: u32,
     pub cmd: u8,
@@ -50,81 +53,45 @@ pub struct Header {
     pub len: u32,
 }
 
-// What a helper that reads answers: the number, or refusal 16.
-#[derive(Clone, Copy)]
-pub enum Number {
-    Is(u32),
-    ShortHeader,
-}
-
-// What a helper that sets answers: done, or refusal 16.
-#[derive(Clone, Copy)]
-pub enum Put {
-    Done,
-    ShortHeader,
-}
-
-// The four bytes of a number, the low one first.
-#[derive(Clone, Copy)]
-struct Four {
-    b0: u8,
-    b1: u8,
-    b2: u8,
-    b3: u8,
-}
-
 // The kind of a cmd, if it is one of the four.
-pub fn command_of(cmd: u8) -> Command
-    ensures { result ≡ command_of cmd }
-{
-    match cmd {
-        PUSH => Command::Known { kind: Kind::Push },
-        ACK => Command::Known { kind: Kind::Ack },
-        ASK => Command::Known { kind: Kind::Ask },
-        TELL => Command::Known { kind: Kind::Tell },
-        _ => Command::Unknown { cmd: cmd },
+impl TryFrom<u8> for Kind {
+    type Error = UnsupportedCmd;
+
+    ghost try_from_gives = { λ cmd r. r ≡ command_of cmd };
+
+    fn try_from(cmd: u8) -> Result<Kind, UnsupportedCmd> {
+        match cmd {
+            PUSH => Ok(Kind::Push),
+            ACK => Ok(Kind::Ack),
+            ASK => Ok(Kind::Ask),
+            TELL => Ok(Kind::Tell),
+            _ => Err(UnsupportedCmd { cmd }),
+        }
     }
 }
 
-// The cmd of a kind.
-pub fn cmd_of(kind: Kind) -> u8
-    ensures { result ≡ cmd_of kind }
-{
-    match kind {
-        Kind::Push => PUSH,
-        Kind::Ack => ACK,
-        Kind::Ask => ASK,
-        Kind::Tell => TELL,
+impl From<Kind> for u8 {
+    ghost from_gives = { λ kind cmd. cmd ≡ cmd_of kind };
+
+    // The cmd of a kind.
+    fn from(kind: Kind) -> u8
+        ensures { result ≡ cmd_of kind }
+    {
+        match kind {
+            Kind::Push => PUSH,
+            Kind::Ack => ACK,
+            Kind::Ask => ASK,
+            Kind::Tell => TELL,
+        }
     }
 }
 
-// A byte as a wider number.
-fn wide(x: u8) -> u32
-    ensures { (result ≡ x) × (result < 256) }
-{
-    x as u32
-}
-
-// The number of two bytes.
-fn join2(b0: u8, b1: u8) -> u16
-    ensures { result ≡ number (b0 ∷ b1 ∷ []) }
-{
-    (wide(b0) + 256 * wide(b1)) as u16
-}
-
-// The number of four bytes.
-fn join4(b0: u8, b1: u8, b2: u8, b3: u8) -> u32
-    ensures { result ≡ number (b0 ∷ b1 ∷ b2 ∷ b3 ∷ []) }
-{
-    wide(b0) + 256 * (wide(b1) + 256 * (wide(b2) + 256 * wide(b3)))
-}
-
-// The number whose two bytes stand at `at`.
+// The number whose two bytes stand at `at`. One function for each width, since from_le_bytes is the method of a type and of no trait.
 fn half(s: &[u8], at: usize) -> u16
     requires { at + 2 ≤ length s.now }
     ensures { result ≡ le_at 2 s.now at }
 {
-    join2(s[at], s[at + 1])
+    u16::from_le_bytes([s[at], s[at + 1]])
 }
 
 // The number whose four bytes stand at `at`.
@@ -132,22 +99,11 @@ fn word(s: &[u8], at: usize) -> u32
     requires { at + 4 ≤ length s.now }
     ensures { result ≡ le_at 4 s.now at }
 {
-    join4(s[at], s[at + 1], s[at + 2], s[at + 3])
-}
-
-// The four bytes of a number.
-fn split(x: u32) -> Four
-    ensures { Split x result }
-{
-    Four {
-        b0: (x % 256) as u8,
-        b1: (x / 256 % 256) as u8,
-        b2: (x / 256 / 256 % 256) as u8,
-        b3: (x / 256 / 256 / 256 % 256) as u8,
-    }
+    u32::from_le_bytes([s[at], s[at + 1], s[at + 2], s[at + 3]])
 }
 
 // The header whose 24 bytes stand at `at`.
+#[tactic(auto, unfolding(crate::specs::Header::header_at))]
 pub fn read_header(s: &[u8], at: usize) -> Header
     requires { at + 24 ≤ length s.now }
     ensures { result ≡ header_at s.now at }
@@ -169,72 +125,48 @@ impl Header {
     pub fn bytes(self) -> [u8; 24]
         ensures { result ≡ header_bytes self }
     {
-        let conv = split(self.conv);
-        let wnd = self.wnd;
-        let ts = split(self.ts);
-        let sn = split(self.sn);
-        let una = split(self.una);
-        let len = split(self.len);
-        [
-            conv.b0,
-            conv.b1,
-            conv.b2,
-            conv.b3,
-            self.cmd,
-            self.frg,
-            (wnd % 256) as u8,
-            (wnd / 256 % 256) as u8,
-            ts.b0,
-            ts.b1,
-            ts.b2,
-            ts.b3,
-            sn.b0,
-            sn.b1,
-            sn.b2,
-            sn.b3,
-            una.b0,
-            una.b1,
-            una.b2,
-            una.b3,
-            len.b0,
-            len.b1,
-            len.b2,
-            len.b3,
-        ]
+        let mut bytes = [0u8; 24];
+        bytes[..4].copy_from_slice(&self.conv.to_le_bytes());
+        bytes[4] = self.cmd;
+        bytes[5] = self.frg;
+        bytes[6..8].copy_from_slice(&self.wnd.to_le_bytes());
+        bytes[8..12].copy_from_slice(&self.ts.to_le_bytes());
+        bytes[12..16].copy_from_slice(&self.sn.to_le_bytes());
+        bytes[16..20].copy_from_slice(&self.una.to_le_bytes());
+        bytes[20..].copy_from_slice(&self.len.to_le_bytes());
+        bytes
     }
 }
 
 // The conversation of the header at the front of `buf`, whatever else stands there; refused by 16 under 24 bytes.
-pub fn get_conv(buf: &[u8]) -> Number
+pub fn get_conv(buf: &[u8]) -> Result<u32, ShortHeader>
     ensures { Got conv_of buf.now result }
 {
     if buf.len() < OVERHEAD {
-        return Number::ShortHeader;
+        Err(ShortHeader)
+    } else {
+        Ok(word(buf, 0))
     }
-    Number::Is(word(buf, 0))
 }
 
 // The number of the segment whose header stands at the front of `buf`; refused by 16 under 24 bytes.
-pub fn get_sn(buf: &[u8]) -> Number
+pub fn get_sn(buf: &[u8]) -> Result<u32, ShortHeader>
     ensures { Got sn_of buf.now result }
 {
     if buf.len() < OVERHEAD {
-        return Number::ShortHeader;
+        Err(ShortHeader)
+    } else {
+        Ok(word(buf, 12))
     }
-    Number::Is(word(buf, 12))
 }
 
 // Sets the conversation of the header at the front of `buf`, and leaves every byte past it; refused by 16 under 24 bytes, which leaves all.
-pub fn set_conv(buf: &mut [u8], conv: u32) -> Put
+pub fn set_conv(buf: &mut [u8], conv: u32) -> Result<(), ShortHeader>
     ensures { ConvSet buf.old conv result buf.new }
 {
     if buf.len() < OVERHEAD {
-        return Put::ShortHeader;
+        return Err(ShortHeader);
     }
-    let w = split(conv);
-    buf[0] = w.b0;
-    buf[1] = w.b1;
-    buf[2] = w.b2;
-    buf[3] = w.b3;
-    Put::Done
+    buf[..4].copy_from_slice(&conv.to_le_bytes());
+    Ok(())
 }

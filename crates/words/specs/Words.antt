@@ -1,7 +1,8 @@
 -- A control block as thirty-five words, for a host that keeps it as a list of numbers: the words of a block, the block of words, and which words are
 -- those of a block. Two numbers of 16 bits share a word, the low one first, and incr, of 64 bits, is its low and its high half; the flags share word 0,
 -- whose other bits are 0. So any number is a block's, but for word 0. What every call that is handed memory tests comes first. Assumes nothing.
-use Rattle.std.specs.Prelude.{ℕ, ◌+◌, ◌*◌, ◌/◌, ◌%◌, Bool, true, false, ◌&&◌, List, [], ◌∷◌, ltb, eqb, length, get_or, set}
+use Rattle.std.specs.Prelude.{ℕ, ◌+◌, ◌*◌, ◌/◌, ◌%◌, Bool, ◌&&◌, List, [], ◌∷◌, ltb, eqb, length, get_or, set}
+use Rattle.std.specs.Int.{from_bool}
 use Rattle.estimator.specs.declared.Estimator.{Estimator}
 use Rattle.snd_ring.specs.declared.SndRing.{SndRing}
 use Rattle.block.specs.declared.settings.Settings.{Settings}
@@ -17,8 +18,7 @@ use Rattle.block.specs.declared.Kcp.{Kcp}
 
 -- a flag as a number
 abbrev pub bit : Bool → ℕ
-bit true = 1
-bit false = 0
+bit b = from_bool b
 
 -- two numbers of 16 bits in a word
 abbrev pub pair : ℕ → ℕ → ℕ

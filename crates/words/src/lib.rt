@@ -2,8 +2,8 @@
 // flags are 0; so reading tests one word, and a call loads and stores the words that it needs.
 #![tactic(auto)]
 
-ghost use Rattle.std.specs.Prelude.{◌≡◌, ◌&&◌, ◌+◌, ◌*◌, ◌/◌, ◌%◌, ◌<◌, length, set};
-ghost use Rattle.words.specs.Words.{bit, pair, flags_of, words_of, at, low, high, flag, settings_of, clock_of, estimator_of, congestion_of, probe_of, receiver_of, acklist_of, sender_of, block_of, is_block, with_flags, with_mtu_words, with_rcv_words, with_snd_words, with_windows, with_nodelay_words, with_probe_words, with_cwnd_words, with_clock_words, with_turn_words, with_count_words, with_sent_words};
+ghost use Rattle.std.specs.Prelude.{◌≡◌, true, false, MatchOption, ◌&&◌, ◌+◌, ◌*◌, ◌/◌, ◌%◌, ◌<◌, length, set};
+ghost use Rattle.words.specs.Words.{pair, flags_of, words_of, low, high, flag, settings_of, clock_of, estimator_of, congestion_of, probe_of, receiver_of, acklist_of, sender_of, block_of, is_block, with_flags, with_mtu_words, with_rcv_words, with_snd_words, with_windows, with_nodelay_words, with_probe_words, with_cwnd_words, with_clock_words, with_turn_words, with_count_words, with_sent_words};
 
 use block::Kcp;
 use block::acklist::AckList;
@@ -20,14 +20,93 @@ use snd_ring::SndRing;
 // How many words a block has.
 pub const WORDS: usize = 35;
 
+// The number of Refusal::BadPool, by which words that are no block are refused, and that of a call that is not.
+pub const NO_BLOCK: u32 = 15;
+
+pub const DONE: u32 = 0;
+
+// Where each number stands; two numbers of 16 bits share a word, and so do the flags.
+const FLAGS: usize = 0;
+
+const MTU: usize = 1;
+
+const MSS: usize = 2;
+
+const PROBE_WAIT: usize = 3;
+
+const RCV_NXT: usize = 4;
+
+const RCV_WINDOWS: usize = 5;
+
+const RCV_START: usize = 6;
+
+const RCV_QUEUED: usize = 7;
+
+const RCV_REACH: usize = 8;
+
+const SND_START: usize = 9;
+
+const SND_REACH: usize = 10;
+
+const FLYING: usize = 11;
+
+const UNSENT: usize = 12;
+
+const ACKS: usize = 13;
+
+const WAITING: usize = 14;
+
+pub const PROBE_BITS: usize = 15;
+
+pub const CONV: usize = 16;
+
+const SND_UNA: usize = 17;
+
+const SND_NXT: usize = 18;
+
+const SND_WINDOWS: usize = 19;
+
+const CWND: usize = 20;
+
+const INCR_LOW: usize = 21;
+
+const INCR_HIGH: usize = 22;
+
+const SRTT: usize = 23;
+
+const RTTVAL: usize = 24;
+
+const RTO: usize = 25;
+
+pub const MINRTO: usize = 26;
+
+const CURRENT: usize = 27;
+
+pub const INTERVAL: usize = 28;
+
+const TS_FLUSH: usize = 29;
+
+const TS_PROBE: usize = 30;
+
+const XMIT: usize = 31;
+
+pub const FASTRESEND: usize = 32;
+
+const FASTLIMIT: usize = 33;
+
+pub const DEAD_LINK: usize = 34;
+
+// The numbers of 16 bits and of 32.
+const SHORT: u32 = 1 << 16;
+
+const LONG: u64 = 1 << 32;
+
 // Whether words are those of a block.
+#[tactic(auto, unfolding(crate::specs::Words::is_block))]
 pub fn is_block(words: &[u32]) -> bool
     ensures { result ≡ is_block words.now }
 {
-    if words.len() != WORDS {
-        return false;
-    }
-    words[0] < 64
+    words.len() == WORDS && words[FLAGS] < 64
 }
 
 // The flag of value v.
@@ -36,7 +115,7 @@ fn flag(words: &[u32], v: u32) -> bool
     requires v_nonzero { 0 < v }
     ensures { result ≡ flag words.now v }
 {
-    words[0] / v % 2 == 1
+    words[FLAGS] / v % 2 == 1
 }
 
 // The low half of word i.
@@ -44,7 +123,7 @@ fn low(words: &[u32], i: usize) -> u16
     requires { i < length words.now }
     ensures { result ≡ low words.now i }
 {
-    (words[i] % 65536) as u16
+    (words[i] % SHORT) as u16
 }
 
 // The high half of word i.
@@ -52,7 +131,7 @@ fn high(words: &[u32], i: usize) -> u16
     requires { i < length words.now }
     ensures { result ≡ high words.now i }
 {
-    (words[i] / 65536) as u16
+    (words[i] / SHORT) as u16
 }
 
 // The settings in words.
@@ -61,16 +140,16 @@ fn settings(words: &[u32]) -> Settings
     ensures { result ≡ settings_of words.now }
 {
     Settings {
-        conv: words[16],
-        mtu: words[1],
-        mss: words[2],
+        conv: words[CONV],
+        mtu: words[MTU],
+        mss: words[MSS],
         nodelay: flag(words, 1),
         nocwnd: flag(words, 2),
         stream: flag(words, 4),
         input_conv: flag(words, 8),
-        fastresend: words[32],
-        fastlimit: words[33],
-        dead_link: words[34],
+        fastresend: words[FASTRESEND],
+        fastlimit: words[FASTLIMIT],
+        dead_link: words[DEAD_LINK],
     }
 }
 
@@ -80,9 +159,9 @@ fn clock(words: &[u32]) -> Clock
     ensures { result ≡ clock_of words.now }
 {
     Clock {
-        current: words[27],
-        interval: words[28],
-        ts_flush: words[29],
+        current: words[CURRENT],
+        interval: words[INTERVAL],
+        ts_flush: words[TS_FLUSH],
         updated: flag(words, 16),
     }
 }
@@ -93,18 +172,11 @@ fn estimator(words: &[u32]) -> Estimator
     ensures { result ≡ estimator_of words.now }
 {
     Estimator {
-        srtt: words[23],
-        rttval: words[24],
-        rto: words[25],
-        minrto: words[26],
+        srtt: words[SRTT],
+        rttval: words[RTTVAL],
+        rto: words[RTO],
+        minrto: words[MINRTO],
     }
-}
-
-// A number of 64 bits from its halves.
-fn wide64(low: u32, high: u32) -> u64
-    ensures { result ≡ low + high * 4294967296 }
-{
-    low as u64 + high as u64 * 4294967296
 }
 
 // The windows of the sending side in words.
@@ -113,11 +185,11 @@ fn congestion(words: &[u32]) -> Congestion
     ensures { result ≡ congestion_of words.now }
 {
     Congestion {
-        snd_wnd: low(words, 19),
-        rmt_wnd: high(words, 19),
-        cwnd: low(words, 20),
-        ssthresh: high(words, 20),
-        incr: wide64(words[21], words[22]),
+        snd_wnd: low(words, SND_WINDOWS),
+        rmt_wnd: high(words, SND_WINDOWS),
+        cwnd: low(words, CWND),
+        ssthresh: high(words, CWND),
+        incr: u64::from(words[INCR_LOW]) + u64::from(words[INCR_HIGH]) * LONG,
     }
 }
 
@@ -127,9 +199,9 @@ fn probe(words: &[u32]) -> Probe
     ensures { result ≡ probe_of words.now }
 {
     Probe {
-        bits: words[15],
-        ts_probe: words[30],
-        probe_wait: words[3],
+        bits: words[PROBE_BITS],
+        ts_probe: words[TS_PROBE],
+        probe_wait: words[PROBE_WAIT],
     }
 }
 
@@ -139,13 +211,13 @@ fn receiver(words: &[u32]) -> Receiver
     ensures { result ≡ receiver_of words.now }
 {
     Receiver {
-        rcv_nxt: words[4],
-        rcv_wnd: low(words, 5),
-        largest: high(words, 5),
+        rcv_nxt: words[RCV_NXT],
+        rcv_wnd: low(words, RCV_WINDOWS),
+        largest: high(words, RCV_WINDOWS),
         ring: RcvRing {
-            start: words[6],
-            queued: words[7],
-            reach: words[8],
+            start: words[RCV_START],
+            queued: words[RCV_QUEUED],
+            reach: words[RCV_REACH],
         },
     }
 }
@@ -156,8 +228,8 @@ fn acklist(words: &[u32]) -> AckList
     ensures { result ≡ acklist_of words.now }
 {
     AckList {
-        acks: words[13],
-        waiting: words[14],
+        acks: words[ACKS],
+        waiting: words[WAITING],
     }
 }
 
@@ -167,20 +239,21 @@ fn sender(words: &[u32]) -> Sender
     ensures { result ≡ sender_of words.now }
 {
     Sender {
-        snd_una: words[17],
-        snd_nxt: words[18],
+        snd_una: words[SND_UNA],
+        snd_nxt: words[SND_NXT],
         ring: SndRing {
-            start: words[9],
-            reach: words[10],
-            flying: words[11],
-            unsent: words[12],
+            start: words[SND_START],
+            reach: words[SND_REACH],
+            flying: words[FLYING],
+            unsent: words[UNSENT],
         },
-        xmit: words[31],
+        xmit: words[XMIT],
         dead: flag(words, 32),
     }
 }
 
 // The block in words.
+#[tactic(auto, unfolding(crate::specs::Words::block_of))]
 pub fn block(words: &[u32]) -> Kcp
     requires { length words.now ≡ 35 }
     ensures { result ≡ block_of words.now }
@@ -197,48 +270,39 @@ pub fn block(words: &[u32]) -> Kcp
     }
 }
 
-// A flag as a number.
-fn bit(b: bool) -> u32
-    ensures { (result ≡ bit b) × (result < 2) }
+// The block in words, where they are those of a block. Inlined, so that the block is read out of the words there and never laid out in memory.
+#[inline(always)]
+#[tactic(auto, using(crate::proofs::Tests::block_length))]
+pub fn block_in(words: &[u32]) -> Option<Kcp>
+    ensures { MatchOption result (is_block words.now ≡ false) (λ k. (is_block words.now ≡ true) × (k ≡ block_of words.now)) }
 {
-    if b { 1 } else { 0 }
+    if is_block(words) {
+        Some(block(words))
+    } else {
+        None
+    }
 }
 
 // The flags of a block in a word.
 fn flags_of(block: Kcp) -> u32
     ensures { result ≡ flags_of block }
 {
-    let settings = block.settings;
-    let clock = block.clock;
-    let sender = block.sender;
-    bit(settings.nodelay)
-        + (2 * bit(settings.nocwnd)
-            + (4 * bit(settings.stream)
-                + (8 * bit(settings.input_conv)
-                    + (16 * bit(clock.updated) + 32 * bit(sender.dead)))))
+    u32::from(block.settings.nodelay)
+        + (2 * u32::from(block.settings.nocwnd)
+            + (4 * u32::from(block.settings.stream)
+                + (8 * u32::from(block.settings.input_conv)
+                    + (16 * u32::from(block.clock.updated) + 32 * u32::from(block.sender.dead)))))
 }
 
 // Two numbers of 16 bits in a word.
 fn pair(low: u16, high: u16) -> u32
     ensures { result ≡ pair low high }
 {
-    low as u32 + high as u32 * 65536
-}
-
-// The low and the high half of a number of 64 bits.
-fn low_half(x: u64) -> u32
-    ensures { result ≡ x % 4294967296 }
-{
-    (x % 4294967296) as u32
-}
-
-fn high_half(x: u64) -> u32
-    ensures { result ≡ x / 4294967296 }
-{
-    (x / 4294967296) as u32
+    u32::from(low) + u32::from(high) * SHORT
 }
 
 // The words of a block.
+#[tactic(auto, unfolding(crate::specs::Words::words_of))]
 fn words_of(block: Kcp) -> [u32; 35]
     ensures { result ≡ words_of block }
 {
@@ -266,8 +330,8 @@ fn words_of(block: Kcp) -> [u32; 35]
         block.sender.snd_nxt,
         pair(block.congestion.snd_wnd, block.congestion.rmt_wnd),
         pair(block.congestion.cwnd, block.congestion.ssthresh),
-        low_half(block.congestion.incr),
-        high_half(block.congestion.incr),
+        (block.congestion.incr % LONG) as u32,
+        (block.congestion.incr / LONG) as u32,
         block.estimator.srtt,
         block.estimator.rttval,
         block.estimator.rto,
@@ -288,106 +352,115 @@ pub fn write(block: Kcp, words: &mut [u32])
     requires { length words.old ≡ 35 }
     ensures { words.new ≡ words_of block }
 {
-    let all = words_of(block);
-    ring::put_record(words, 0, &all);
+    words.copy_from_slice(&words_of(block));
 }
 
 // Writes the flags.
+#[tactic(auto, unfolding(crate::specs::Words::with_flags))]
 pub fn put_flags(block: Kcp, words: &mut [u32])
     requires { length words.old ≡ 35 }
     ensures { words.new ≡ with_flags block words.old }
 {
-    words[0] = flags_of(block);
+    words[FLAGS] = flags_of(block);
 }
 
 // Writes what set_nodelay sets: the flags, rx_minrto, the interval and fastresend.
+#[tactic(auto, unfolding(crate::specs::Words::with_nodelay_words))]
 pub fn put_nodelay(block: Kcp, words: &mut [u32])
     requires { length words.old ≡ 35 }
     ensures { words.new ≡ with_nodelay_words block words.old }
 {
-    words[0] = flags_of(block);
-    words[26] = block.estimator.minrto;
-    words[28] = block.clock.interval;
-    words[32] = block.settings.fastresend;
+    words[FLAGS] = flags_of(block);
+    words[MINRTO] = block.estimator.minrto;
+    words[INTERVAL] = block.clock.interval;
+    words[FASTRESEND] = block.settings.fastresend;
 }
 
 // Writes mtu and mss.
+#[tactic(auto, unfolding(crate::specs::Words::with_mtu_words))]
 pub fn put_mtu(settings: Settings, words: &mut [u32])
     requires { length words.old ≡ 35 }
     ensures { words.new ≡ with_mtu_words settings words.old }
 {
-    words[1] = settings.mtu;
-    words[2] = settings.mss;
+    words[MTU] = settings.mtu;
+    words[MSS] = settings.mss;
 }
 
 // Writes rcv_nxt and the receive ring.
+#[tactic(auto, unfolding(crate::specs::Words::with_rcv_words))]
 pub fn put_receiver(receiver: Receiver, words: &mut [u32])
     requires { length words.old ≡ 35 }
     ensures { words.new ≡ with_rcv_words receiver words.old }
 {
     let ring = receiver.ring;
-    words[4] = receiver.rcv_nxt;
-    words[6] = ring.start;
-    words[7] = ring.queued;
-    words[8] = ring.reach;
+    words[RCV_NXT] = receiver.rcv_nxt;
+    words[RCV_START] = ring.start;
+    words[RCV_QUEUED] = ring.queued;
+    words[RCV_REACH] = ring.reach;
 }
 
 // Writes the send ring.
+#[tactic(auto, unfolding(crate::specs::Words::with_snd_words))]
 pub fn put_snd_ring(ring: SndRing, words: &mut [u32])
     requires { length words.old ≡ 35 }
     ensures { words.new ≡ with_snd_words ring words.old }
 {
-    words[9] = ring.start;
-    words[10] = ring.reach;
-    words[11] = ring.flying;
-    words[12] = ring.unsent;
+    words[SND_START] = ring.start;
+    words[SND_REACH] = ring.reach;
+    words[FLYING] = ring.flying;
+    words[UNSENT] = ring.unsent;
 }
 
 // Writes both windows, the largest receive window, and the peer's window, which shares a word with the send window.
+#[tactic(auto, unfolding(crate::specs::Words::with_windows))]
 pub fn put_windows(block: Kcp, words: &mut [u32])
     requires { length words.old ≡ 35 }
     ensures { words.new ≡ with_windows block words.old }
 {
-    words[5] = pair(block.receiver.rcv_wnd, block.receiver.largest);
-    words[19] = pair(block.congestion.snd_wnd, block.congestion.rmt_wnd);
+    words[RCV_WINDOWS] = pair(block.receiver.rcv_wnd, block.receiver.largest);
+    words[SND_WINDOWS] = pair(block.congestion.snd_wnd, block.congestion.rmt_wnd);
 }
 
 // Writes the probe, the window of congestion, and the clock without its interval.
+#[tactic(auto, unfolding(crate::specs::Words::with_probe_words))]
 fn put_probe(probe: Probe, words: &mut [u32])
     requires { length words.old ≡ 35 }
     ensures { words.new ≡ with_probe_words probe words.old }
 {
-    words[3] = probe.probe_wait;
-    words[15] = probe.bits;
-    words[30] = probe.ts_probe;
+    words[PROBE_WAIT] = probe.probe_wait;
+    words[PROBE_BITS] = probe.bits;
+    words[TS_PROBE] = probe.ts_probe;
 }
 
+#[tactic(auto, unfolding(crate::specs::Words::with_cwnd_words))]
 fn put_cwnd(congestion: Congestion, words: &mut [u32])
     requires { length words.old ≡ 35 }
     ensures { words.new ≡ with_cwnd_words congestion words.old }
 {
-    words[20] = pair(congestion.cwnd, congestion.ssthresh);
-    words[21] = low_half(congestion.incr);
-    words[22] = high_half(congestion.incr);
+    words[CWND] = pair(congestion.cwnd, congestion.ssthresh);
+    words[INCR_LOW] = (congestion.incr % LONG) as u32;
+    words[INCR_HIGH] = (congestion.incr / LONG) as u32;
 }
 
+#[tactic(auto, unfolding(crate::specs::Words::with_clock_words))]
 fn put_clock(clock: Clock, words: &mut [u32])
     requires { length words.old ≡ 35 }
     ensures { words.new ≡ with_clock_words clock words.old }
 {
-    words[27] = clock.current;
-    words[29] = clock.ts_flush;
+    words[CURRENT] = clock.current;
+    words[TS_FLUSH] = clock.ts_flush;
 }
 
 // Writes the ack memory in use, snd_nxt and xmit.
+#[tactic(auto, unfolding(crate::specs::Words::with_count_words))]
 fn put_counts(block: Kcp, words: &mut [u32])
     requires { length words.old ≡ 35 }
     ensures { words.new ≡ with_count_words block words.old }
 {
-    words[13] = block.acklist.acks;
-    words[14] = block.acklist.waiting;
-    words[18] = block.sender.snd_nxt;
-    words[31] = block.sender.xmit;
+    words[ACKS] = block.acklist.acks;
+    words[WAITING] = block.acklist.waiting;
+    words[SND_NXT] = block.sender.snd_nxt;
+    words[XMIT] = block.sender.xmit;
 }
 
 // Writes what flush and update change where nothing goes out.
@@ -411,45 +484,11 @@ pub fn put_sent(block: Kcp, words: &mut [u32])
     put_snd_ring(block.sender.ring, words);
 }
 
-// Writes one word: the bits of the probe, the conv, rx_minrto, the interval, fastresend or dead_link.
-pub fn put_probe_bits(words: &mut [u32], x: u32)
-    requires { length words.old ≡ 35 }
-    ensures { words.new ≡ set words.old 15 x }
+// Writes one word.
+pub fn put_word(words: &mut [u32], place: usize, x: u32)
+    requires words_len { length words.old ≡ 35 }
+    requires place_in { place < 35 }
+    ensures { words.new ≡ set words.old place x }
 {
-    words[15] = x;
-}
-
-pub fn put_conv(words: &mut [u32], x: u32)
-    requires { length words.old ≡ 35 }
-    ensures { words.new ≡ set words.old 16 x }
-{
-    words[16] = x;
-}
-
-pub fn put_minrto(words: &mut [u32], x: u32)
-    requires { length words.old ≡ 35 }
-    ensures { words.new ≡ set words.old 26 x }
-{
-    words[26] = x;
-}
-
-pub fn put_interval(words: &mut [u32], x: u32)
-    requires { length words.old ≡ 35 }
-    ensures { words.new ≡ set words.old 28 x }
-{
-    words[28] = x;
-}
-
-pub fn put_fastresend(words: &mut [u32], x: u32)
-    requires { length words.old ≡ 35 }
-    ensures { words.new ≡ set words.old 32 x }
-{
-    words[32] = x;
-}
-
-pub fn put_dead_link(words: &mut [u32], x: u32)
-    requires { length words.old ≡ 35 }
-    ensures { words.new ≡ set words.old 34 x }
-{
-    words[34] = x;
+    words[place] = x;
 }

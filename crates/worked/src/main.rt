@@ -6,63 +6,55 @@ ghost use Rattle.std.specs.Prelude.{◌≡◌, ◌≤◌, ◌++◌, length, get_
 ghost use Rattle.serial.specs.Branch.{pick};
 ghost use Rattle.ring.specs.Lists.{lists};
 ghost use Rattle.wire.specs.Header.{header_bytes};
-ghost use Rattle.block.specs.Refusals.{number_of_bytes, values_of_bytes};
+ghost use Rattle.block.specs.Refusals.{number_of_answer, values_of_count};
 ghost use Rattle.block.specs.Sizes.{mtu_size};
 ghost use Rattle.kcp_receive.specs.Calls.{wndsize_number};
 ghost use Rattle.kcp_input.specs.Input.{input_of, input_number};
+ghost use Rattle.recorded.specs.Memory.{memory_of, Kept};
 
 use block::Kcp;
-use block::make::Made;
-use block::refusal::Bytes;
+use block::refusal::{Refusal, number_of};
+use recorded::memory::LentMemory;
+use recorded::sums::filled;
+use std::fmt::Display;
 use std::io;
 use wire::Header;
 
 // A line: what the number is, and the number.
-fn write_line(rt: &impl Print, what: &str, number: u64) -> io::Result<()> {
+fn write_line(rt: &impl Print, what: &str, number: impl Display + Drop) -> io::Result<()> {
     println!(rt; "{what}: {number}")
-}
-
-// The line of one row.
-fn write_row(rt: &impl Print, called: &str, number: u32) -> io::Result<()> {
-    write_line(rt, called, number as u64)
 }
 
 // The number of what set_wndsize answers.
 fn wndsize_number(block: Kcp, sndwnd: u16, rcvwnd: u16, records: &[u32], room: &[u8]) -> u32
     ensures { result ≡ wndsize_number block (lists records.now room.now) rcvwnd }
 {
-    let set = kcp_receive::set_wndsize(block, sndwnd, rcvwnd, records, room);
-    let answer = set.answer;
-    answer.number()
+    number_of(kcp_receive::set_wndsize(block, sndwnd, rcvwnd, records, room).answer)
 }
 
 // The number of what set_mtu answers.
 fn mtu_number(block: Kcp, mtu: usize) -> u32
     ensures { result ≡ pick (mtu_size mtu) 0 10 }
 {
-    let set = block.set_mtu(mtu);
-    let answer = set.answer;
-    answer.number()
+    number_of(block.set_mtu(mtu).answer)
 }
 
 // What input answers.
-fn heard(
-    block: Kcp,
-    records: &mut [u32],
-    room: &mut [u8],
-    snd_records: &mut [u32],
-    snd_room: &[u8],
-    acks: &mut [u32],
-    waiting: &[u8],
-    datagram: &[u8],
-) -> Bytes
-    ensures value { result ≡ (input_of block (lists records.old room.old) acks.old waiting.now (lists snd_records.old snd_room.now) datagram.now).answer }
-    ensures result_value { number_of_bytes result ≡ input_number block (lists records.old room.old) acks.old waiting.now (lists snd_records.old snd_room.now) datagram.now }
+fn heard(block: Kcp, lent: &mut LentMemory, datagram: &[u8]) -> Result<usize, Refusal>
+    ensures value { let m = memory_of block lent.old in result ≡ (input_of block m.rcv m.acks m.waiting m.snd datagram.now).answer }
+    ensures result_value { let m = memory_of block lent.old in number_of_answer result ≡ input_number block m.rcv m.acks m.waiting m.snd datagram.now }
+    ensures kept { Kept lent.old lent.new }
 {
+    let rcv_records = &mut *lent.rcv_records;
+    let rcv_room = &mut *lent.rcv_room;
+    let snd_records = &mut *lent.snd_records;
+    let snd_room = &mut *lent.snd_room;
+    let acks = &mut *lent.acks;
+    let waiting = &mut *lent.waiting;
     let out = kcp_input::input(
         block,
-        records,
-        room,
+        rcv_records,
+        rcv_room,
         snd_records,
         snd_room,
         acks,
@@ -72,94 +64,48 @@ fn heard(
     out.answer
 }
 
-// The number of what input answers.
-fn bytes_number(answer: Bytes) -> u32
-    ensures { result ≡ number_of_bytes answer }
-{
-    match answer {
-        Bytes::Are { count: _ } => 0,
-        Bytes::Refused { why } => why.number(),
-    }
-}
-
 // The bytes that it counts, or the first value of its refusal.
-fn bytes_count(answer: Bytes) -> usize
-    ensures { result ≡ get_or (values_of_bytes answer) 0 0 }
+fn bytes_count(answer: Result<usize, Refusal>) -> usize
+    ensures { result ≡ get_or (values_of_count answer) 0 0 }
 {
-    match answer {
-        Bytes::Are { count } => count,
-        Bytes::Refused { why } => why.values().first,
-    }
+    answer.unwrap_or_else(|why| why.values().first)
 }
 
 // Puts a header in front of the bytes that follow it.
+#[tactic(auto, unfolding(wire::specs::Header::header_bytes))]
 fn put_header(datagram: &mut [u8], header: Header)
     requires { 24 ≤ length datagram.old }
     ensures { datagram.new ≡ header_bytes header ++ drop 24 datagram.old }
 {
-    let front = header.bytes();
-    ring::copy(&front, datagram);
+    datagram[..wire::OVERHEAD].copy_from_slice(&header.bytes());
 }
 
 // "R = 256: rcvwnd 128 passes, 129 gets 14."
-fn window_rows(rt: &impl Print, block: Kcp, records: &[u32], room: &[u8]) -> io::Result<()> {
-    write_row(
-        rt,
-        "R = 256, set_wndsize(0, 128)",
-        wndsize_number(block, 0, 128, records, room),
-    )?;
-    write_row(
-        rt,
-        "R = 256, set_wndsize(0, 129)",
-        wndsize_number(block, 0, 129, records, room),
-    )
+fn window_rows(rt: &impl Print, block: Kcp, lent: &LentMemory) -> io::Result<()> {
+    for rcvwnd in [128u16, 129] {
+        let number = wndsize_number(block, 0, rcvwnd, lent.rcv_records, lent.rcv_room);
+        println!(rt; "R = 256, set_wndsize(0, {rcvwnd}): {number}")?;
+    }
+    Ok(())
 }
 
 // "Input of 1,500 bytes is read, 1,501 gets 11": the first 1,500 bytes of the datagram, and all 1,501.
-fn input_rows(
-    rt: &impl Print,
-    block: Kcp,
-    records: &mut [u32],
-    room: &mut [u8],
-    snd_records: &mut [u32],
-    snd_room: &[u8],
-    acks: &mut [u32],
-    waiting: &[u8],
-    datagram: &[u8],
-) -> io::Result<()>
+fn input_rows(rt: &impl Print, block: Kcp, lent: &mut LentMemory, datagram: &[u8]) -> io::Result<()>
     requires { 1501 ≡ length datagram.now }
 {
-    let read = heard(
-        block,
-        records,
-        room,
-        snd_records,
-        snd_room,
-        acks,
-        waiting,
-        &datagram[..1500],
-    );
-    write_row(rt, "input of 1500 bytes", bytes_number(read))?;
-    write_line(rt, "its bytes consumed", bytes_count(read) as u64)?;
-    let longer = heard(
-        block,
-        records,
-        room,
-        snd_records,
-        snd_room,
-        acks,
-        waiting,
-        datagram,
-    );
-    write_row(rt, "input of 1501 bytes", bytes_number(longer))
+    let read = heard(block, lent, &datagram[..1500]);
+    write_line(rt, "input of 1500 bytes", number_of(read))?;
+    write_line(rt, "its bytes consumed", bytes_count(read))?;
+    let longer = heard(block, lent, datagram);
+    write_line(rt, "input of 1501 bytes", number_of(longer))
 }
 
 // "mtu 49 and 1,501 get 10", and the ends that pass.
 fn mtu_rows(rt: &impl Print, block: Kcp) -> io::Result<()> {
-    write_row(rt, "set_mtu(49)", mtu_number(block, 49))?;
-    write_row(rt, "set_mtu(50)", mtu_number(block, 50))?;
-    write_row(rt, "set_mtu(1500)", mtu_number(block, 1500))?;
-    write_row(rt, "set_mtu(1501)", mtu_number(block, 1501))
+    for mtu in [49usize, 50, 1500, 1501] {
+        println!(rt; "set_mtu({mtu}): {}", mtu_number(block, mtu))?;
+    }
+    Ok(())
 }
 
 // One update: its number, how many datagrams went out, and where the clock and the next flush then stand.
@@ -168,112 +114,63 @@ fn update_row(
     called: &str,
     block: Kcp,
     current: u32,
-    records: &mut [u32],
-    room: &[u8],
-    acks: &[u32],
-    waiting: &[u8],
+    lent: &mut LentMemory,
 ) -> io::Result<Kcp> {
+    let snd_records = &mut *lent.snd_records;
+    let snd_room = &mut *lent.snd_room;
+    let acks = &mut *lent.acks;
+    let waiting = &mut *lent.waiting;
     let mut out = [0u8; 64];
     let mut lengths = [0u16; 4];
     let updated = kcp_flush::update(
         block,
         current,
-        records,
-        room,
+        snd_records,
+        snd_room,
         acks,
         waiting,
         &mut out,
         &mut lengths,
     );
-    let answer = updated.answer;
-    let after = updated.block;
-    let clock = after.clock;
-    write_row(rt, called, answer.number())?;
-    write_line(rt, "its datagrams", updated.datagrams as u64)?;
-    write_line(rt, "the clock then", clock.current as u64)?;
-    write_line(rt, "ts_flush then", clock.ts_flush as u64)?;
-    Ok(after)
+    let clock = updated.block.clock;
+    write_line(rt, called, number_of(updated.answer))?;
+    write_line(rt, "its datagrams", updated.datagrams)?;
+    write_line(rt, "the clock then", clock.current)?;
+    write_line(rt, "ts_flush then", clock.ts_flush)?;
+    Ok(updated.block)
 }
 
 // The first update opens the window for one segment and sets ts_flush to 20,100; "hi" then waits for a flush.
-fn hi_waits(
-    rt: &impl Print,
-    block: Kcp,
-    records: &mut [u32],
-    room: &mut [u8],
-    acks: &[u32],
-    waiting: &[u8],
-) -> io::Result<Kcp> {
-    let first = update_row(
-        rt,
-        "update(20000), the first",
-        block,
-        20000,
-        records,
-        room,
-        acks,
-        waiting,
-    )?;
-    let sent = kcp_send::send(first, records, room, b"hi");
+fn hi_waits(rt: &impl Print, block: Kcp, lent: &mut LentMemory) -> io::Result<Kcp> {
+    let first = update_row(rt, "update(20000), the first", block, 20000, lent)?;
+    let sent = kcp_send::send(first, lent.snd_records, lent.snd_room, b"hi");
     Ok(sent.block)
 }
 
 // "Updated block, clock 10,000 before ts_flush: update only stores the time. 10,001 before: ts_flush restarts and a flush runs."
-fn clock_rows(
-    rt: &impl Print,
-    block: Kcp,
-    records: &mut [u32],
-    room: &[u8],
-    acks: &[u32],
-    waiting: &[u8],
-) -> io::Result<()> {
+fn clock_rows(rt: &impl Print, block: Kcp, lent: &mut LentMemory) -> io::Result<()> {
     let stored = update_row(
         rt,
         "update(10100), 10000 before ts_flush",
         block,
         10100,
-        records,
-        room,
-        acks,
-        waiting,
+        lent,
     )?;
     update_row(
         rt,
         "update(10099), 10001 before ts_flush",
         stored,
         10099,
-        records,
-        room,
-        acks,
-        waiting,
+        lent,
     )?;
     Ok(())
-}
-
-// The payloads of 256 receive slots and of 128 send slots, and 1,501 bytes. Each contract gives the length alone, which lending the array needs.
-fn receive_room() -> [u8; 377856]
-    ensures { 377856 ≡ length result }
-{
-    [0; 377856]
-}
-
-fn send_room() -> [u8; 188928]
-    ensures { 188928 ≡ length result }
-{
-    [0; 188928]
-}
-
-fn datagram_room() -> [u8; 1501]
-    ensures { 1501 ≡ length result }
-{
-    [0; 1501]
 }
 
 // A push of the longest payload, its bytes 0, and one byte more.
 fn datagram() -> [u8; 1501]
     ensures { 1501 ≡ length result }
 {
-    let mut out = datagram_room();
+    let mut out: [u8; 1501] = filled(0);
     put_header(
         &mut out,
         Header {
@@ -290,77 +187,50 @@ fn datagram() -> [u8; 1501]
     out
 }
 
-// Makes a fresh block over the memory lent, and writes the rows of the clock.
-fn rows_of_clock(
-    rt: &impl Print,
-    records: &[u32],
-    room: &[u8],
-    snd_records: &mut [u32],
-    snd_room: &mut [u8],
-    acks: &[u32],
-    waiting: &[u8],
-) -> io::Result<()> {
-    let made = Kcp::new(1, records, room, snd_records, snd_room, acks, waiting);
-    let Made::Block { block } = made else {
-        return println!(rt; "no block");
-    };
-    let waits = hi_waits(rt, block, snd_records, snd_room, acks, waiting)?;
-    clock_rows(rt, waits, snd_records, snd_room, acks, waiting)
+// A fresh block over the memory lent.
+fn fresh(lent: &LentMemory) -> Result<Kcp, Refusal> {
+    Kcp::new(
+        1,
+        lent.rcv_records,
+        lent.rcv_room,
+        lent.snd_records,
+        lent.snd_room,
+        lent.acks,
+        lent.waiting,
+    )
 }
 
-// Makes a fresh block over the memory lent, and writes the other rows.
-fn rows(
-    rt: &impl Print,
-    records: &mut [u32],
-    room: &mut [u8],
-    snd_records: &mut [u32],
-    snd_room: &[u8],
-    acks: &mut [u32],
-    waiting: &[u8],
-) -> io::Result<()> {
-    let made = Kcp::new(1, records, room, snd_records, snd_room, acks, waiting);
-    let Made::Block { block } = made else {
+// The rows over a fresh block, and those of the clock over another.
+fn rows(rt: &impl Print, lent: &mut LentMemory) -> io::Result<()> {
+    let Ok(block) = fresh(lent) else {
         return println!(rt; "no block");
     };
-    window_rows(rt, block, records, room)?;
-    input_rows(
-        rt,
-        block,
-        records,
-        room,
-        snd_records,
-        snd_room,
-        acks,
-        waiting,
-        &datagram(),
-    )?;
-    mtu_rows(rt, block)
+    window_rows(rt, block, lent)?;
+    input_rows(rt, block, lent, &datagram())?;
+    mtu_rows(rt, block)?;
+    let Ok(block) = fresh(lent) else {
+        return println!(rt; "no block");
+    };
+    let waits = hi_waits(rt, block, lent)?;
+    clock_rows(rt, waits, lent)
 }
+
+// The payloads of 256 receive slots and of 128 send slots.
+const RECEIVE_ROOM: usize = 377856;
+
+const SEND_ROOM: usize = 188928;
 
 // R = 256, P = 128 and A = 128.
 fn main(rt: HostRuntime) -> io::Result<()> {
-    let mut records = [0u32; 256];
-    let mut room = receive_room();
-    let mut snd_records = [0u32; 1152];
-    let mut snd_room = send_room();
-    let mut acks = [0u32; 256];
-    let waiting = [0u8; 1500];
-    rows(
-        &rt,
-        &mut records,
-        &mut room,
-        &mut snd_records,
-        &snd_room,
-        &mut acks,
-        &waiting,
-    )?;
-    rows_of_clock(
-        &rt,
-        &records,
-        &room,
-        &mut snd_records,
-        &mut snd_room,
-        &acks,
-        &waiting,
-    )
+    let mut rcv_room: [u8; RECEIVE_ROOM] = filled(0);
+    let mut snd_room: [u8; SEND_ROOM] = filled(0);
+    let mut lent = LentMemory {
+        rcv_records: &mut [0; 256],
+        rcv_room: &mut rcv_room,
+        snd_records: &mut [0; 1152],
+        snd_room: &mut snd_room,
+        acks: &mut [0; 256],
+        waiting: &mut [0; 1500],
+    };
+    rows(&rt, &mut lent)
 }

@@ -1,7 +1,6 @@
 -- `due::due_write` meets its contract. Assumes nothing.
 use native.Mathlib.Omega.{arith}
 use Rattle.due.proofs.Writing.{ring-numbers, first_run, second_run, both_runs}
-use borrow.Author.Rules.{rules}
 use Rattle.due.proofs.due_write.Goals as goal
 
 pub runs_of-runs-requires : goal.runs_of-runs-requires
@@ -19,10 +18,10 @@ write_run-w-requires c =
     let a = c.args in
     let e = c.slots_in-slots.ensures in
     let r = c.runs_of-runs.ensures in
+    let high = r.high in
     record {
-      slots_value = e;
       from_le_to = r.low;
-      to_le_slots = r.high;
+      to_in_bounds = omega arith;
       mtu_bound = c.requires.mtu_bound;
       fits = first_run a.told a.pace a.dead_link a.mtu c.requires.mtu_bound a.ring a.records.now a.room.now a.out.now a.lengths.now a.packer a.tally c.requires.sound c.requires.roomy e r;
     }
@@ -33,9 +32,8 @@ write_run-requires c =
     let e = c.slots_in-slots.ensures in
     let r = c.runs_of-runs.ensures in
     record {
-      slots_value = search rules;
       from_le_to = omega arith;
-      to_le_slots = r.behind;
+      to_in_bounds = omega arith;
       mtu_bound = c.requires.mtu_bound;
       fits = second_run a.told a.pace a.dead_link a.mtu c.requires.mtu_bound a.ring a.records.now a.room.now a.out.now a.lengths.now a.packer a.tally c.requires.sound c.requires.roomy e r c.write_run-w.ensures;
     }

@@ -11,43 +11,34 @@ use Rattle.due.proofs.size_run.Goals as goal
 
 pub loop-q-init : goal.loop-q-init
 loop-q-init c =
-    (omega arith, omega arith, omega arith, omega arith, c.requires.each, λ room. refl)
+    (omega arith, omega arith, c.requires.each, λ room. refl)
 
 pub size_at-p-requires : goal.size_at-p-requires
 size_at-p-requires c =
     let l = c.loop-q in
-    let e = each_next (λ (q : ℕ). get_or c.args.records.now q 0 ≤ 1477) l.q c.args.to c.loop-q-test.true l.invariant.4 in
+    let e = each_next (λ (q : ℕ). get_or c.args.records.now q 0 ≤ 1477) l.q c.args.to c.loop-q-test.true l.invariant.2 in
     record {
-      slots_value = c.requires.slots_value;
       q_lt_slots = omega arith;
       q_bound = e.0;
       used_bound = omega arith;
       count_bound = omega arith;
     }
 
-pub overflow_add-q : goal.overflow_add-q
-overflow_add-q c = omega arith
-
-pub loop-q-smaller : goal.loop-q-smaller
-loop-q-smaller c = omega arith
-
 pub loop-q-preserved : goal.loop-q-preserved
 loop-q-preserved c =
     let l = c.loop-q in
-    let e = each_next (λ (q : ℕ). get_or c.args.records.now q 0 ≤ 1477) l.q c.args.to c.loop-q-test.true l.invariant.4 in
+    let e = each_next (λ (q : ℕ). get_or c.args.records.now q 0 ≤ 1477) l.q c.args.to c.loop-q-test.true l.invariant.2 in
     let g = c.size_at-p.ensures.used_bound_2 in (
       omega arith,
       omega arith,
-      omega arith,
-      omega arith,
       e.1,
-      λ room. sizes-next c.args.mtu (store_of 8 (lists c.args.records.now room)) l.q c.args.to l.p c.args.pace (omega arith) (c.size_at-p.ensures.by_index room) ∙ l.invariant.5 room,
+      λ room. sizes-next c.args.mtu (store_of 8 (lists c.args.records.now room)) l.q c.args.to l.p c.args.pace (omega arith) (c.size_at-p.ensures.by_index room) ∙ l.invariant.3 room,
     )
 
 pub returns : goal.returns
 returns c =
     let l = c.loop-q in
     record {
-      by_index = λ room. sym (sizes-end c.args.mtu (store_of 8 (lists c.args.records.now room)) l.q c.args.to l.p c.args.pace (omega arith)) ∙ l.invariant.5 room;
+      by_index = λ room. sym (sizes-end c.args.mtu (store_of 8 (lists c.args.records.now room)) l.q c.args.to l.p c.args.pace (omega arith)) ∙ l.invariant.3 room;
       used_bound_2 = (omega arith, omega arith);
     }

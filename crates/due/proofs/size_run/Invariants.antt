@@ -12,9 +12,6 @@ use Rattle.due.proofs.size_run.Given as goal
 
 abbrev pub invariant-loop-q : goal.invariant-loop-q
 invariant-loop-q l =
-    (l.from ≤ l.q) × (l.q ≤ l.to) × (l.p.start + l.p.used ≤ l.initial.p.start + l.initial.p.used + 1500 * (l.q - l.from)) × (l.p.count ≤ l.initial.p.count + (l.q - l.from))
+    (l.p.start + l.p.used ≤ l.initial.p.start + l.initial.p.used + 1500 * (l.q - l.from)) × (l.p.count ≤ l.initial.p.count + (l.q - l.from))
     × Each (λ (q : ℕ). get_or l.records q 0 ≤ 1477) (run_of l.q (l.to - l.q))
     × ((room : List ℕ) → sized l.mtu l.p (sizes_over l.pace (run_of l.q (l.to - l.q)) (store_of 8 (lists l.records room))) ≡ sized l.mtu l.initial.p (sizes_over l.pace (run_of l.from (l.to - l.from)) (store_of 8 (lists l.records room))))
-
-abbrev pub decreases-loop-q : goal.decreases-loop-q
-decreases-loop-q l = l.to - l.q

@@ -9,53 +9,44 @@ pub returns-then-not-goes_out : goal.returns-then-not-goes_out
 returns-then-not-goes_out c =
     let a = c.args in
     let f = c.requires.fits in
-    write-idle a.told a.pace a.dead_link a.mtu a.records.now a.room.now a.out.now a.lengths.now a.packer a.tally c.requires.slots_value a.q c.requires.q_lt_slots f c.record_at.ensures c.flown_by-flown.ensures c.goes_out.ensures (ap not c.if-not-goes_out.true)
+    write-idle a.way.told a.way.pace a.way.dead_link a.way.mtu a.records.now a.room.now a.out.now a.lengths.now a.before.packer a.before.tally a.q c.requires.q_lt_slots f c.record_at.ensures c.flown_by-flown.ensures c.goes_out.ensures (ap not c.if-not-goes_out.true)
 
 pub returns-then-mark-eq0 : goal.returns-then-mark-eq0
 returns-then-mark-eq0 c =
     let a = c.args in
     let f = c.requires.fits in
-    write-gap a.told a.pace a.dead_link a.mtu a.records.now a.room.now a.out.now a.lengths.now a.packer a.tally c.requires.slots_value a.q c.requires.q_lt_slots f c.if-mark-eq0.true
+    write-gap a.way.told a.way.pace a.way.dead_link a.way.mtu a.records.now a.room.now a.out.now a.lengths.now a.before.packer a.before.tally a.q c.requires.q_lt_slots f c.if-mark-eq0.true
 
 pub overflow_cast-n : goal.overflow_cast-n
 overflow_cast-n c =
     let a = c.args in
     let f = c.requires.fits in
-    let w = write-needs a.told a.pace a.dead_link a.mtu a.records.now a.room.now a.out.now a.lengths.now a.packer a.tally c.requires.slots_value a.q c.requires.q_lt_slots f c.record_at.ensures c.flown_by-flown.ensures c.goes_out.ensures (ap not c.if-not-goes_out.false) c.if-mark-eq0.false in
+    let w = write-needs a.way.told a.way.pace a.way.dead_link a.way.mtu a.records.now a.room.now a.out.now a.lengths.now a.before.packer a.before.tally a.q c.requires.q_lt_slots f c.record_at.ensures c.flown_by-flown.ensures c.goes_out.ensures (ap not c.if-not-goes_out.false) c.if-mark-eq0.false in
     omega arith
 
 pub put_piece-requires : goal.put_piece-requires
 put_piece-requires c =
     let a = c.args in
     let f = c.requires.fits in
-    let w = write-needs a.told a.pace a.dead_link a.mtu a.records.now a.room.now a.out.now a.lengths.now a.packer a.tally c.requires.slots_value a.q c.requires.q_lt_slots f c.record_at.ensures c.flown_by-flown.ensures c.goes_out.ensures (ap not c.if-not-goes_out.false) c.if-mark-eq0.false in
+    let w = write-needs a.way.told a.way.pace a.way.dead_link a.way.mtu a.records.now a.room.now a.out.now a.lengths.now a.before.packer a.before.tally a.q c.requires.q_lt_slots f c.record_at.ensures c.flown_by-flown.ensures c.goes_out.ensures (ap not c.if-not-goes_out.false) c.if-mark-eq0.false in
     record {
       q_in_bounds = w.1;
       n_bound = omega arith;
       n_in_bounds = w.3;
     }
 
-pub put_record_at-requires : goal.put_record_at-requires
-put_record_at-requires c =
-    let a = c.args in
-    let f = c.requires.fits in
-    record {
-      slots_value = c.requires.slots_value;
-      q_lt_slots = c.requires.q_lt_slots;
-    }
-
 pub overflow_add-n : goal.overflow_add-n
 overflow_add-n c =
     let a = c.args in
     let f = c.requires.fits in
-    let w = write-needs a.told a.pace a.dead_link a.mtu a.records.now a.room.now a.out.now a.lengths.now a.packer a.tally c.requires.slots_value a.q c.requires.q_lt_slots f c.record_at.ensures c.flown_by-flown.ensures c.goes_out.ensures (ap not c.if-not-goes_out.false) c.if-mark-eq0.false in
+    let w = write-needs a.way.told a.way.pace a.way.dead_link a.way.mtu a.records.now a.room.now a.out.now a.lengths.now a.before.packer a.before.tally a.q c.requires.q_lt_slots f c.record_at.ensures c.flown_by-flown.ensures c.goes_out.ensures (ap not c.if-not-goes_out.false) c.if-mark-eq0.false in
     omega arith
 
 pub cut-further-requires : goal.cut-further-requires
 cut-further-requires c =
     let a = c.args in
     let f = c.requires.fits in
-    let w = write-needs a.told a.pace a.dead_link a.mtu a.records.now a.room.now a.out.now a.lengths.now a.packer a.tally c.requires.slots_value a.q c.requires.q_lt_slots f c.record_at.ensures c.flown_by-flown.ensures c.goes_out.ensures (ap not c.if-not-goes_out.false) c.if-mark-eq0.false in
+    let w = write-needs a.way.told a.way.pace a.way.dead_link a.way.mtu a.records.now a.room.now a.out.now a.lengths.now a.before.packer a.before.tally a.q c.requires.q_lt_slots f c.record_at.ensures c.flown_by-flown.ensures c.goes_out.ensures (ap not c.if-not-goes_out.false) c.if-mark-eq0.false in
     record {
       n_bound = w.4;
       used_bound = omega arith;
@@ -66,4 +57,4 @@ pub returns : goal.returns
 returns c =
     let a = c.args in
     let f = c.requires.fits in
-    write_done a.told a.pace a.dead_link a.mtu a.records.now a.room.now a.out.now a.lengths.now a.packer a.tally c.requires.slots_value a.q c.requires.q_lt_slots f c.record_at.ensures c.flown_by-flown.ensures c.goes_out.ensures (ap not c.if-not-goes_out.false) c.if-mark-eq0.false c.push_head.ensures c.put_piece.ensures _ c.put_record_at.ensures c.cut-further.ensures.value c.cut-further.ensures.lengths_after c.with_sent.ensures
+    write_done a.way.told a.way.pace a.way.dead_link a.way.mtu a.records.now a.room.now a.out.now a.lengths.now a.before.packer a.before.tally a.q c.requires.q_lt_slots f c.record_at.ensures c.flown_by-flown.ensures c.goes_out.ensures (ap not c.if-not-goes_out.false) c.if-mark-eq0.false c.push_head.ensures c.put_piece.ensures _ c.put_record_at.ensures c.cut-further.ensures.value c.cut-further.ensures.lengths_after c.with_sent.ensures

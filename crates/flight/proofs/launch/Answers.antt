@@ -1,6 +1,7 @@
 -- `flight::launch` meets its contract. Assumes nothing.
 use native.Mathlib.Omega.{arith}
-use Rattle.transmit.proofs.Steps.{asks}
+use mathlib.Core.Path.{refl}
+use Rattle.transmit.proofs.Steps.{asks, inside}
 use Rattle.flight.proofs.Steps.{flying-few, launch-done}
 use Rattle.flight.proofs.launch.Goals as goal
 
@@ -8,9 +9,7 @@ pub launch_rows-requires : goal.launch_rows-requires
 launch_rows-requires c =
     let w = asks c.requires.lies in
     record {
-      slots_value = omega arith;
-      slots_bound = omega arith;
-      start_lt_slots = omega arith;
+      inside = inside c.requires.lies;
       k_bound = omega arith;
     }
 
@@ -28,4 +27,4 @@ overflow_add-result-2 c =
 pub returns : goal.returns
 returns c =
     let a = c.args in
-    λ room. launch-done a.conv a.current a.rx_rto a.k a.sender a.records.now c.slots_in-slots.ensures room (c.launch_rows.ensures room) c.add.ensures
+    λ room. launch-done a.conv a.current a.rx_rto a.k a.sender a.records.now room (c.launch_rows.ensures room) refl

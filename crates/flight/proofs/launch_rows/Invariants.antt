@@ -1,8 +1,7 @@
 -- `flight::launch_rows` meets its contract. Assumes nothing.
-use Prim.Native.Nat.{ℕ, ◌+◌, ◌-◌, ◌≤◌}
+use Prim.Native.Nat.{ℕ, ◌+◌, ◌-◌}
 use mathlib.Core.Path.{◌≡◌}
 use mathlib.Core.List.{List}
-use lib.ListN.{length}
 use Rattle.ring.specs.Lists.{lists}
 use Rattle.snd_ring.specs.Store.{store_of}
 use Rattle.flight.specs.Places.{places_of}
@@ -11,8 +10,4 @@ use Rattle.flight.proofs.launch_rows.Given as goal
 
 abbrev pub invariant-loop-i : goal.invariant-loop-i
 invariant-loop-i l =
-    (l.i ≤ l.k) × (length l.records ≡ length l.initial.records)
-    × ((room : List ℕ) → launched_over l.conv l.current l.rx_rto l.sn (places_of l.slots l.start (l.reach + l.i) (l.k - l.i)) (store_of 8 (lists l.records room)) ≡ launched_over l.conv l.current l.rx_rto l.snd_nxt (places_of l.slots l.start l.reach l.k) (store_of 8 (lists l.initial.records room)))
-
-abbrev pub decreases-loop-i : goal.decreases-loop-i
-decreases-loop-i l = l.k - l.i
+    (room : List ℕ) → launched_over l.conv l.current l.rx_rto l.sn (places_of l.slots l.start (l.reach + l.i) (l.k - l.i)) (store_of 8 (lists l.records room)) ≡ launched_over l.conv l.current l.rx_rto l.snd_nxt (places_of l.slots l.start l.reach l.k) (store_of 8 (lists l.initial.records room))

@@ -2,4 +2,4 @@
 use Rattle.flight.proofs.reckoned.Goals as goal
 
 pub returns : goal.returns
-returns c = rw (c.ahead_of.ensures, c.add.ensures)
+returns c = rw c.ahead_of.ensures

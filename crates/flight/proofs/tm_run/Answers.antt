@@ -13,21 +13,14 @@ use Rattle.flight.proofs.tm_run.Goals as goal
 pub loop-q-init : goal.loop-q-init
 loop-q-init c =
     let e = c.reckoned-w.ensures in
-    (omega arith, rw e, λ room. rw e)
+    (rw e, λ room. rw e)
 
 pub tm_step-w-requires : goal.tm_step-w-requires
 tm_step-w-requires c =
     record {
-      slots_value = omega arith;
       q_lt_slots = omega arith;
-      w_value = c.loop-q.invariant.1;
+      w_value = c.loop-q.invariant.0;
     }
-
-pub overflow_add-q : goal.overflow_add-q
-overflow_add-q c = omega arith
-
-pub loop-q-smaller : goal.loop-q-smaller
-loop-q-smaller c = omega arith
 
 pub loop-q-preserved : goal.loop-q-preserved
 loop-q-preserved c =
@@ -35,13 +28,12 @@ loop-q-preserved c =
     let a = c.args in
     let e = c.tm_step-w.ensures in
     let tm : (room : List ℕ) → c.tm_step-w.result.tm ≡ _ = λ room. ap (λ (w : Reckoning). w.tm) (e room) in (
-      omega arith,
       e [] ∙ ap (reckoned_of a.current) (sym (tm [])),
-      λ room. tm-next a.current (store_of 8 (lists a.records.now room)) l.q a.to l.w.tm (omega arith) (tm room) ∙ l.invariant.2 room,
+      λ room. tm-next a.current (store_of 8 (lists a.records.now room)) l.q a.to l.w.tm (omega arith) (tm room) ∙ l.invariant.1 room,
     )
 
 pub returns : goal.returns
 returns c =
     let l = c.loop-q in
     let a = c.args in
-    λ room. sym (tm-end a.current (store_of 8 (lists a.records.now room)) l.q a.to l.w.tm (omega arith)) ∙ l.invariant.2 room
+    λ room. sym (tm-end a.current (store_of 8 (lists a.records.now room)) l.q a.to l.w.tm (omega arith)) ∙ l.invariant.1 room

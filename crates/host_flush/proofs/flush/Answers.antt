@@ -1,7 +1,6 @@
 -- `host_flush::flush` meets its contract: refused by the sizes of the ack memory, or a turn. Assumes nothing.
 use native.Mathlib.Omega.{arith}
-use mathlib.Core.Bool.{false}
-use Rattle.serial.specs.Branch.{pick}
+use Rattle.std.specs.Prelude.{None}
 use Rattle.ring.specs.Lists.{lists}
 use Rattle.packing.specs.FlushAck.{writing}
 use Rattle.host_flush.proofs.Laws.{flush_unsized}
@@ -10,13 +9,11 @@ use Rattle.std.proofs.Common.{not}
 use Rattle.host_flush.proofs.flush.Goals as goal
 
 pub returns-then-not-ack_sizes : goal.returns-then-not-ack_sizes
-unfolding pick
 returns-then-not-ack_sizes c =
     let a = c.args in
     let l = lists a.records.now a.room.now in
     let w = writing a.waiting.now a.out.now a.lengths.now in
-    flush_unsized l a.acks.now w false 0 c.ack_sizes.ensures (ap not c.if-not-ack_sizes.true) a.words.now a.datagrams.now (λ i. omega (arith, c.slice_known-1.given i))
+    flush_unsized l a.acks.now w None c.ack_sizes.ensures (ap not c.if-not-ack_sizes.true) a.words.now a.datagrams.now (λ i. omega (arith, c.slice_known-1.given i))
 
 pub returns : goal.returns
-unfolding pick
 returns c = c.turn.ensures

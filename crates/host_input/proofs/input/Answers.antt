@@ -1,23 +1,19 @@
 -- `host_input::input` meets its contract: the law of words that are no block, and of those that are. Assumes nothing.
+use Rattle.std.proofs.Common.{sym, refl}
 use Rattle.ring.specs.Lists.{lists}
-use Rattle.words.proofs.Tests.{held-length}
+use Rattle.words.proofs.Tests.{block_length}
 use Rattle.host_input.proofs.Laws.{read_none, read_done}
-use Rattle.std.proofs.Common.{ap}
-use Rattle.std.proofs.Common.{not}
 use Rattle.host_input.proofs.input.Goals as goal
 
-pub returns-then-not-is_block : goal.returns-then-not-is_block
-returns-then-not-is_block c =
+pub returns-in_default : goal.returns-in_default
+returns-in_default c =
     let a = c.args in
-    read_none (lists a.rcv_records.now a.rcv_room.now) a.acks.now a.waiting.now (lists a.snd_records.now a.snd_room.now) a.datagram.now _ c.is_block.ensures (ap not c.if-not-is_block.true)
-
-pub block-requires : goal.block-requires
-block-requires c = held-length _ c.is_block.ensures (ap not c.if-not-is_block.false)
+    read_none (lists a.rcv_records.now a.rcv_room.now) a.acks.now a.waiting.now (lists a.snd_records.now a.snd_room.now) a.datagram.now _ (sym c.in_default.ensures) refl
 
 pub write-requires : goal.write-requires
-write-requires c = held-length _ c.is_block.ensures (ap not c.if-not-is_block.false)
+write-requires c = block_length _ c.in-Some.ensures.0
 
 pub returns : goal.returns
 returns c =
     let a = c.args in
-    read_done (lists a.rcv_records.now a.rcv_room.now) a.acks.now a.waiting.now (lists a.snd_records.now a.snd_room.now) a.datagram.now _ c.is_block.ensures (ap not c.if-not-is_block.false) c.block.ensures _ c.input-out.ensures.is c.number_of.ensures c.values_in.ensures c.write.ensures
+    read_done (lists a.rcv_records.now a.rcv_room.now) a.acks.now a.waiting.now (lists a.snd_records.now a.snd_room.now) a.datagram.now _ (sym c.in-Some.ensures.0) refl c.in-Some.ensures.1 _ c.input-out.ensures.is c.number_of.ensures c.values_in.ensures c.write.ensures

@@ -2,4 +2,4 @@
 use Rattle.input.proofs.ask.Goals as goal
 
 pub returns : goal.returns
-returns c = rw (c.with_probe.ensures, c.tell.ensures)
+returns c = rw c.tell.ensures

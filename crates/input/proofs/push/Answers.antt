@@ -1,4 +1,5 @@
 -- `input::push` meets its contract. Assumes nothing.
+use mathlib.Core.Path.{refl}
 use Rattle.input.proofs.Effects.{skips-fit}
 use Rattle.ring.specs.Lists.{lists}
 use Rattle.input.specs.Segment.{push_of}
@@ -14,4 +15,4 @@ pub shape_of-rcv_records : goal.shape_of-rcv_records
 shape_of-rcv_records c = c.rcv_records-1.given
 
 pub returns : goal.returns
-returns c = let a = c.args in push-done a.walk.block (lists a.rcv_records.now a.rcv_room.now) a.acks.now (push_of a.h a.payload.now) a.h.ts _ (lists _ _) _ c.push-out.ensures c.with_receiver.ensures c.with_acklist.ensures a.walk.latest a.walk.skipped
+returns c = let a = c.args in push-done a.walk.block (lists a.rcv_records.now a.rcv_room.now) a.acks.now (push_of a.h a.payload.now) a.h.ts _ (lists _ _) _ c.push-out.ensures refl refl a.walk.latest a.walk.skipped

@@ -19,7 +19,7 @@ walk_all-met-requires c = let p = c.requires in
 pub returns-in_default : goal.returns-in_default
 returns-in_default c = let a = c.args in
     record {
-      by_index = λ room. read-stops a.block (lists a.rcv_records.now a.rcv_room.now) a.acks.now (store_of 8 (lists a.snd_records.now room)) a.datagram.now c.new.ensures (met_by c.walk_all-met.result.walk (lists _ _) _ _ room) (c.walk_all-met.ensures.by_index room) c.in_default.is;
+      by_index = λ room. read-stops a.block (lists a.rcv_records.now a.rcv_room.now) a.acks.now (store_of 8 (lists a.snd_records.now room)) a.datagram.now refl (met_by c.walk_all-met.result.walk (lists _ _) _ _ room) (c.walk_all-met.ensures.by_index room) c.in_default.is;
       skipped_bound = c.walk_all-met.ensures.skipped_bound;
     }
 
@@ -41,6 +41,6 @@ shape_of-snd_records c = c.snd_records-2-1.given ∙ c.snd_records-1.given
 pub returns : goal.returns
 returns c = let a = c.args in
     record {
-      by_index = λ room. read_goes a.block (lists a.rcv_records.now a.rcv_room.now) a.acks.now (store_of 8 (lists a.snd_records.now room)) a.datagram.now c.new.ensures (met_by c.walk_all-met.result.walk (lists _ _) _ _ room) (c.walk_all-met.ensures.by_index room) c.in-Are.is (c.parse_fastack.ensures room) c.grown_by-congestion.ensures c.with_congestion.ensures;
+      by_index = λ room. read_goes a.block (lists a.rcv_records.now a.rcv_room.now) a.acks.now (store_of 8 (lists a.snd_records.now room)) a.datagram.now refl (met_by c.walk_all-met.result.walk (lists _ _) _ _ room) (c.walk_all-met.ensures.by_index room) c.in-Ok.is (c.parse_fastack.ensures room) c.grown_by-congestion.ensures refl;
       skipped_bound = c.walk_all-met.ensures.skipped_bound;
     }

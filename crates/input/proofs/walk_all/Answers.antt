@@ -44,10 +44,10 @@ returns-in_default c = let w = c.segment-met.ensures in
     }
 
 pub loop-at-smaller : goal.loop-at-smaller
-loop-at-smaller c = less c.loop-at.invariant.0 c.requires.datagram_len_bound c.loop-at-test.true _ (lists _ _) _ _ c.segment-met.ensures.by_index c.in-Are.is
+loop-at-smaller c = less c.loop-at.invariant.0 c.requires.datagram_len_bound c.loop-at-test.true _ (lists _ _) _ _ c.segment-met.ensures.by_index c.in-Ok.is
 
 pub loop-at-preserved : goal.loop-at-preserved
-loop-at-preserved c = let w = c.segment-met.ensures in let i = c.loop-at.invariant in (going_on i.0 c.requires.datagram_len_bound c.loop-at-test.true _ (lists _ _) _ _ w.by_index c.in-Are.is w.good_2 w.lies_2 w.skipped_bound_2, c.rcv_records-1.given ∙ i.1, c.rcv_room-1.given ∙ i.2, c.acks-1.given ∙ i.3, c.snd_records-1.given ∙ i.4)
+loop-at-preserved c = let w = c.segment-met.ensures in let i = c.loop-at.invariant in (going_on i.0 c.requires.datagram_len_bound c.loop-at-test.true _ (lists _ _) _ _ w.by_index c.in-Ok.is w.good_2 w.lies_2 w.skipped_bound_2, c.rcv_records-1.given ∙ i.1, c.rcv_room-1.given ∙ i.2, c.acks-1.given ∙ i.3, c.snd_records-1.given ∙ i.4)
 
 pub shape_of-rcv_records : goal.shape_of-rcv_records
 shape_of-rcv_records c = c.loop-at.invariant.1

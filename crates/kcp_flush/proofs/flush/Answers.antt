@@ -9,4 +9,4 @@ returns c =
     let a = c.args in
     let l = lists a.records.now a.room.now in
     let w = writing a.waiting.now a.out.now a.lengths.now in
-    flush_by a.block l a.acks.now w 0 c.turn.ensures
+    flush_by a.block l a.acks.now w c.turn.ensures

@@ -11,11 +11,11 @@ returns-then-not-ack_fits c =
     let w = writing a.waiting.now a.out.now a.lengths.now in
     rw c.unsent.ensures (ack-bad a.block a.acks.now w c.ack_fits.ensures (ap not c.if-not-ack_fits.true))
 
-pub returns-then-not-clock : goal.returns-then-not-clock
-returns-then-not-clock c =
+pub returns-then-not-block : goal.returns-then-not-block
+returns-then-not-block c =
     let a = c.args in
     let w = writing a.waiting.now a.out.now a.lengths.now in
-    rw c.unsent-then-not-clock.ensures (ack-early a.block a.acks.now w c.ack_fits.ensures (ap not c.if-not-ack_fits.false) c.if-not-clock.true)
+    rw c.unsent-then-not-block.ensures (ack-early a.block a.acks.now w c.ack_fits.ensures (ap not c.if-not-ack_fits.false) c.if-not-block.true)
 
 pub flush_ack-requires : goal.flush_ack-requires
 flush_ack-requires c =
@@ -33,4 +33,4 @@ pub returns : goal.returns
 returns c =
     let a = c.args in
     let w = writing a.waiting.now a.out.now a.lengths.now in
-    ack-done a.block a.acks.now w c.ack_fits.ensures (ap not c.if-not-ack_fits.false) c.if-not-clock.false c.flush_ack.ensures
+    ack-done a.block a.acks.now w c.ack_fits.ensures (ap not c.if-not-ack_fits.false) c.if-not-block.false c.flush_ack.ensures

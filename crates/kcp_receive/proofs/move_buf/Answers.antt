@@ -1,4 +1,5 @@
 -- `kcp_receive::move_buf` meets its contract. Assumes nothing.
+use mathlib.Core.Path.{refl}
 use Rattle.ring.specs.Lists.{lists}
 use Rattle.receive.proofs.Exact.{good-lies, own-receiver, fits-tested}
 use Rattle.kcp_receive.proofs.Outcomes.{unmoved, moved}
@@ -20,4 +21,4 @@ move_buf-receiver-requires c = good-lies (c.fits.ensures.good c.if-not-fits.fals
 pub returns : goal.returns
 returns c =
     let a = c.args in
-    moved a.block (lists a.records.now a.room.now) (fits-tested _ c.own_numbers.ensures (lists a.records.now a.room.now) c.fits.ensures.value) (ap not c.if-not-fits.false) _ _ c.move_buf-receiver.ensures c.with_receiver.ensures
+    moved a.block (lists a.records.now a.room.now) (fits-tested _ c.own_numbers.ensures (lists a.records.now a.room.now) c.fits.ensures.value) (ap not c.if-not-fits.false) _ _ c.move_buf-receiver.ensures refl

@@ -1,4 +1,5 @@
 -- `kcp_send::send` meets its contract: the law of a memory that is not well formed, and of one that is. Assumes nothing.
+use mathlib.Core.Path.{refl}
 use Rattle.ring.specs.Lists.{lists}
 use Rattle.snd_ring.specs.Store.{store_of}
 use Rattle.transmit.proofs.Exact.{fits-tested}
@@ -29,4 +30,4 @@ pub returns : goal.returns
 returns c =
     let a = c.args in
     let l = lists a.records.now a.room.now in
-    sent a.block l a.bytes.now (fits-tested a.block c.own_numbers.ensures l c.fits.ensures) (ap not c.if-not-fits.false) _ (store_of 8 (lists _ _)) c.send-out.ensures _ c.with_sender.ensures
+    sent a.block l a.bytes.now (fits-tested a.block c.own_numbers.ensures l c.fits.ensures) (ap not c.if-not-fits.false) _ (store_of 8 (lists _ _)) c.send-out.ensures _ refl

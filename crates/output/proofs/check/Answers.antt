@@ -1,7 +1,6 @@
 -- `output::check` meets its contract. Assumes nothing.
-use native.Mathlib.Omega.{arith}
 use Rattle.transmit.proofs.Exact.{lies_of}
-use Rattle.transmit.proofs.Steps.{asks}
+use Rattle.transmit.proofs.Steps.{inside}
 use Rattle.output.proofs.Updates.{check_by, check-now}
 use Rattle.output.proofs.check.Goals as goal
 
@@ -11,12 +10,7 @@ returns-then-most-eq0 c =
 
 pub tm_packet-requires : goal.tm_packet-requires
 tm_packet-requires c =
-    let w = asks (lies_of c.args.block.sender c.args.records.now c.args.room.now c.requires) in
-    record {
-      records_len_bound = w.0;
-      start_in_bounds = w.1;
-      reach_in_bounds = omega arith;
-    }
+    inside (lies_of c.args.block.sender c.args.records.now c.args.room.now c.requires)
 
 pub returns : goal.returns
 returns c =

@@ -5,6 +5,7 @@ use Rattle.ring.specs.Lists.{lists}
 use Rattle.snd_ring.specs.Store.{store_of}
 use Rattle.output.proofs.Flushes.{no_bytes, no_lengths, flush_fits, flush-done, flush-idle}
 use Rattle.output.proofs.flush.Goals as goal
+use Rattle.output.proofs.flush.Goals.{then-out-sizes-via-then-out-sizes, then-out-sizes-via-else-out-sizes+then-lengths-sizes}
 
 pub returns-then-out-sizes : goal.returns-then-out-sizes
 returns-then-out-sizes c =
@@ -12,15 +13,12 @@ returns-then-out-sizes c =
     let m = store_of 8 (lists a.records.now a.room.now) in
     let full = c.requires.waiting_len in
     let most = c.requires.own_numbers.acklist.waiting in
-    rw c.too_small.ensures (no_bytes a.before a.block m a.acks.now a.waiting.now a.out.now a.lengths.now c.requires.sound (omega arith) (c.flush_sizes-sizes.ensures.by_index a.room.now) c.if-out-sizes.true)
-
-pub returns-then-lengths-sizes : goal.returns-then-lengths-sizes
-returns-then-lengths-sizes c =
-    let a = c.args in
-    let m = store_of 8 (lists a.records.now a.room.now) in
-    let full = c.requires.waiting_len in
-    let most = c.requires.own_numbers.acklist.waiting in
-    rw c.too_small-then-lengths-sizes.ensures (no_lengths a.before a.block m a.acks.now a.waiting.now a.out.now a.lengths.now c.requires.sound (omega arith) (c.flush_sizes-sizes.ensures.by_index a.room.now) c.if-lengths-sizes.true)
+    let few = c.flush_sizes-sizes.ensures.by_index a.room.now in
+    rw c.too_small.ensures
+    (elim c.then-out-sizes.branch [
+      | then-out-sizes-via-then-out-sizes w ↦ no_bytes a.before a.block m a.acks.now a.waiting.now a.out.now a.lengths.now c.requires.sound (omega arith) few w.if-out-sizes.true
+      | then-out-sizes-via-else-out-sizes+then-lengths-sizes w ↦ no_lengths a.before a.block m a.acks.now a.waiting.now a.out.now a.lengths.now c.requires.sound (omega arith) few w.if-lengths-sizes.true
+    ])
 
 pub returns-then-sizes-eq0 : goal.returns-then-sizes-eq0
 returns-then-sizes-eq0 c =

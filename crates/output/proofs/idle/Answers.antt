@@ -2,4 +2,4 @@
 use Rattle.output.proofs.idle.Goals as goal
 
 pub returns : goal.returns
-returns c = rw c.settled.ensures
+returns c = rw (c.settled.ensures, c.uncounted-none.ensures)

@@ -41,12 +41,6 @@ returns-then-frg_at-eq0 c =
     let m = rw zero-add at (summed-last (size_at a.ring a.records.now) 0 l.i) in
     spans_of a.ring a.records.now (l.i + 1) (omega arith) _ (omega arith)
 
-pub overflow_add-i : goal.overflow_add-i
-overflow_add-i c = omega arith
-
-pub loop-i-smaller : goal.loop-i-smaller
-loop-i-smaller c = omega arith
-
 pub loop-i-preserved : goal.loop-i-preserved
 loop-i-preserved c =
     let a = c.args in
@@ -62,4 +56,5 @@ returns c =
     let a = c.args in
     let l = c.loop-i in
     let e = message_none (frg_at a.ring a.records.now) l.i a.ring.queued (omega arith) in
-    spans_of a.ring a.records.now l.i (omega arith) _ (omega arith)
+    let q : l.i ≡ a.ring.queued = omega arith in
+    spans_of a.ring a.records.now a.ring.queued (omega arith) _ (rw q at c.loop-i.invariant.2)

@@ -11,6 +11,3 @@ use Rattle.receive.proofs.message_of.Given as goal
 abbrev pub invariant-loop-i : goal.invariant-loop-i
 invariant-loop-i l =
     (l.i ≤ l.ring.queued) × (l.size ≤ 65535 * l.i) × (l.size ≡ summed (size_at l.ring l.records) 0 l.i) × (l.i + message (span (frg_at l.ring l.records) l.i (l.ring.queued - l.i)) ≡ message (queue_frgs l.ring l.records))
-
-abbrev pub decreases-loop-i : goal.decreases-loop-i
-decreases-loop-i l = l.count - l.i

@@ -12,8 +12,7 @@ is_held-requires c =
     let h = slot_in c.requires.good c.args.sn c.requires.sn_value in
     let d = c.distance_of-d.ensures in
     record {
-      records_len_bound = g.many;
-      start_in_bounds = g.started;
+      within = record { many = g.many; started = g.started };
       d_in_bounds = omega arith;
     }
 

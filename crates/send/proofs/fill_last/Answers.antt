@@ -5,14 +5,12 @@ use native.Mathlib.Omega.{arith}
 use mathlib.Core.Path.{sym, ◌∙◌}
 use Rattle.ring.specs.Lists.{lists}
 use Rattle.snd_ring.specs.Store.{store_of}
-use Rattle.snd_ring.proofs.Splits.{marks-length}
 use Rattle.send.proofs.Numbers.{joins-within}
 use Rattle.send.proofs.Steps.{fill_none, fill-some, fill-needs}
-use borrow.Author.Rules.{rules}
 use Rattle.send.proofs.fill_last.Goals as goal
 
 pub last_length-last-requires : goal.last_length-last-requires
-last_length-last-requires c = let a = c.args in let e = marks-length 8 (lists a.records.now a.room.now) in search rules
+last_length-last-requires c = record { room = c.args.room.now; sound = c.requires.sound }
 
 pub returns-then-not-fills : goal.returns-then-not-fills
 returns-then-not-fills c =

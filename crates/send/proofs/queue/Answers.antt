@@ -14,30 +14,15 @@ loop-left-init c =
     let e = marks-length 8 (lists a.records.now a.room.now) in
     turn-first a.count a.mss a.stream a.bytes.now a.from x c.requires.from_in_bounds c.requires.shaped (omega arith)
 
-pub overflow_sub-left : goal.overflow_sub-left
-overflow_sub-left c = omega arith
-
-pub end_of-end-requires : goal.end_of-end-requires
-end_of-end-requires c = c.loop-left.invariant.inside
-
 pub frg_of-requires : goal.frg_of-requires
 frg_of-requires c = let t = c.loop-left.invariant in let r = t.room in let z = t.shaped.sized.most in omega arith
-
-pub slice_bounds-append-count : goal.slice_bounds-append-count
-slice_bounds-append-count c = omega arith
-
-pub slice_bounds-append-start : goal.slice_bounds-append-start
-slice_bounds-append-start c = omega arith
-
-pub slice_bounds-append-end-in-loop-left : goal.slice_bounds-append-end-in-loop-left
-slice_bounds-append-end-in-loop-left c = omega arith
 
 pub append-ring-requires : goal.append-ring-requires
 append-ring-requires c =
     let a = c.args in
     let x = laid a.start (store_of 8 (lists a.records.now a.room.now)) in
     let l = c.loop-left in
-    let r = turn-needs a.count a.mss a.stream a.bytes.now a.from x l.left l.at l.ring l.records l.room l.invariant c.loop-left-test.true c.requires.mss_bound _ _ c.frg_of.ensures c.end_of-end.ensures in
+    let r = turn-needs a.count a.mss a.stream a.bytes.now a.from x l.left l.at l.ring l.records l.room l.invariant c.loop-left-test.true c.requires.mss_bound _ _ c.frg_of.ensures c.min-end.ensures in
     record {
       shaped = r.0;
       unsent_in_bounds = r.1.0;
@@ -45,16 +30,13 @@ append-ring-requires c =
       payload_len_bound = r.1.1.1;
     }
 
-pub loop-left-smaller : goal.loop-left-smaller
-loop-left-smaller c = omega arith
-
 pub loop-left-preserved : goal.loop-left-preserved
 loop-left-preserved c =
     let a = c.args in
     let x = laid a.start (store_of 8 (lists a.records.now a.room.now)) in
     let l = c.loop-left in
     let w = c.append-ring.ensures in
-    turn-next a.count a.mss a.stream a.bytes.now a.from x l.left l.at l.ring l.records l.room l.invariant c.loop-left-test.true c.requires.mss_bound _ _ c.frg_of.ensures c.end_of-end.ensures _ w.0 w.1
+    turn-next a.count a.mss a.stream a.bytes.now a.from x l.left l.at l.ring l.records l.room l.invariant c.loop-left-test.true c.requires.mss_bound _ _ c.frg_of.ensures c.min-end.ensures _ w.0 w.1
 
 pub shape_of-records : goal.shape_of-records
 shape_of-records c =

@@ -8,6 +8,3 @@ use Rattle.send.proofs.queue.Given as goal
 abbrev pub invariant-loop-left : goal.invariant-loop-left
 invariant-loop-left l =
     Turn l.count l.mss l.stream l.bytes l.from (laid l.initial.ring (store_of 8 (lists l.initial.records l.initial.room))) l.left l.at (laid l.ring (store_of 8 (lists l.records l.room)))
-
-abbrev pub decreases-loop-left : goal.decreases-loop-left
-decreases-loop-left l = l.left

@@ -9,7 +9,7 @@ use borrow.Author.Rules.{rules}
 use Rattle.send.proofs.send.Goals as goal
 
 pub last_length-last-requires : goal.last_length-last-requires
-last_length-last-requires c = let a = c.args in let e = marks-length 8 (lists a.records.now a.room.now) in search rules
+last_length-last-requires c = record { room = c.args.room.now; sound = c.requires.sound }
 
 pub returns-then-new-ge128 : goal.returns-then-new-ge128
 returns-then-new-ge128 c =

@@ -1,11 +1,8 @@
--- `sending::raise`: the first i records are raised, and the rest are as they were. Assumes nothing.
-use Rattle.std.proofs.Common.{◌≡◌, ◌≤◌, ◌-◌}
+-- `sending::raise`: the records up to the index are raised, and the rest are as they were. Assumes nothing.
+use Rattle.std.proofs.Common.{◌≡◌}
 use Rattle.sending.specs.Flights.{raised_flight}
 use Rattle.sending.proofs.Upto.{upto}
 use Rattle.sending.proofs.raise.Given as goal
 
-abbrev pub invariant-loop-i : goal.invariant-loop-i
-invariant-loop-i l = (l.i ≤ l.n) × (l.flights ≡ upto (raised_flight l.max_ack l.latest_ts) l.i l.initial.flights)
-
-abbrev pub decreases-loop-i : goal.decreases-loop-i
-decreases-loop-i l = l.n - l.i
+abbrev pub invariant-loop-f : goal.invariant-loop-f
+invariant-loop-f l = l.flights ≡ upto (raised_flight l.latest.sn l.latest.ts) l.f-index l.initial.flights

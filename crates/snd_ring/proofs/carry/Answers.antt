@@ -1,19 +1,13 @@
--- `snd_ring::carry` meets its contract. Assumes nothing.
-use native.Mathlib.Omega.{arith}
-use Prim.Native.Nat.{◌+◌, ◌*◌}
-use mathlib.Core.Path.{ap, ◌∙◌}
-use lib.ListN.{length}
+-- `snd_ring::carry` meets its contract: what copy_within pastes is what is put. Assumes nothing.
+use Rattle.std.proofs.Common.{◌≡◌, ◌+◌, ◌-◌, ◌*◌, ◌∙◌, length, add-zero, arith}
+use Rattle.ring.specs.Records.{put, part}
 use Rattle.ring.proofs.Rows.{part_length}
 use Rattle.snd_ring.proofs.carry.Goals as goal
 
-pub put_record-requires : goal.put_record-requires
-put_record-requires c =
-    let a = c.args in
-    let e = ap length c.get_record.ensures ∙ part_length a.rows.now (a.a * 8 + 0) 8 (omega arith) in
-    rw e (omega arith)
-
 pub returns : goal.returns
+unfolding put part
 returns c =
     let a = c.args in
-    let e = ap length c.get_record.ensures ∙ part_length a.rows.now (a.a * 8 + 0) 8 (omega arith) in
-    rw (e, c.get_record.ensures) at c.put_record.ensures
+    let n : a.a * 8 + 8 - a.a * 8 ≡ 8 = omega arith in
+    let m : length (part a.rows.now (a.a * 8) 8) ≡ 8 = part_length a.rows.now (a.a * 8) 8 (omega arith) in
+    c.copy_within.ensures.after ∙ rw (n, add-zero (a.b * 8), add-zero (a.a * 8), m)

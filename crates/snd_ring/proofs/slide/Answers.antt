@@ -1,31 +1,15 @@
 -- `snd_ring::slide` meets its contract: a gap, a segment that stays, or one that moves. Assumes nothing.
 use native.Mathlib.Omega.{arith}
 use Rattle.ring.specs.Lists.{lists}
-use Rattle.snd_ring.proofs.Splits.{marks-length, room_within}
+use Rattle.snd_ring.proofs.Splits.{room_within}
 use Rattle.snd_ring.proofs.Slides.{here, slide-gap, slide-stay, slide_move}
-use borrow.Author.Rules.{rules}
 use Rattle.snd_ring.proofs.slide.Goals as goal
-
-pub place_of-a-requires : goal.place_of-a-requires
-place_of-a-requires c =
-    let l = marks-length 8 (lists c.args.records.now c.args.room.now) in
-    search rules
 
 pub returns-then-mark-eq0 : goal.returns-then-mark-eq0
 returns-then-mark-eq0 c = slide-gap 8 c.args.records.now c.args.room.now _ c.args.start c.args.i c.args.to _ c.slots_in-slots.ensures c.place_of-a.ensures.0 c.place_of-a.ensures.1 c.if-mark-eq0.true
 
 pub returns-then-next-i : goal.returns-then-next-i
 returns-then-next-i c = slide-stay 8 c.args.records.now c.args.room.now _ c.args.start c.args.i c.args.to _ c.slots_in-slots.ensures c.place_of-a.ensures.0 c.place_of-a.ensures.1 c.if-mark-eq0.false c.requires.sized (omega arith) (omega arith) c.requires.i_bound c.if-next-i.true
-
-pub place_of-b-requires : goal.place_of-b-requires
-place_of-b-requires c =
-    let l = marks-length 8 (lists c.args.records.now c.args.room.now) in
-    search rules
-
-pub overflow_cast-mark : goal.overflow_cast-mark
-overflow_cast-mark c =
-    let h = here 8 c.args.records.now c.args.room.now _ c.args.start c.args.i c.args.to _ c.slots_in-slots.ensures c.place_of-a.ensures.0 c.place_of-a.ensures.1 in
-    omega arith
 
 pub shift-requires : goal.shift-requires
 shift-requires c =

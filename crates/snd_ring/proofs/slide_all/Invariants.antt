@@ -6,6 +6,3 @@ use Rattle.snd_ring.proofs.slide_all.Given as goal
 
 abbrev pub invariant-loop-i : goal.invariant-loop-i
 invariant-loop-i l = Going 8 l.start l.n (store_of 8 (lists l.initial.records l.initial.room)) (store_of 8 (lists l.records l.room)) l.i l.to
-
-abbrev pub decreases-loop-i : goal.decreases-loop-i
-decreases-loop-i l = l.i

@@ -1,16 +1,8 @@
 -- `snd_ring::write` meets its contract. Assumes nothing.
 use native.Mathlib.Omega.{arith}
-use mathlib.Core.List.{[]}
 use Rattle.ring.specs.Lists.{lists}
-use Rattle.snd_ring.proofs.Splits.{part-within, room_within, written_by}
+use Rattle.snd_ring.proofs.Splits.{room_within, written_by}
 use Rattle.snd_ring.proofs.write.Goals as goal
-
-pub put_record-requires : goal.put_record-requires
-put_record-requires c =
-    let a = c.args in
-    let p = c.requires in
-    let n = c.slots_in-slots.ensures in
-    rw p.row_len (part-within 8 a.records.now [] _ n a.q (rw n p.q_in_bounds))
 
 pub put_payload-requires : goal.put_payload-requires
 put_payload-requires c =

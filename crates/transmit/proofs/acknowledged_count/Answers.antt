@@ -11,35 +11,11 @@ use Rattle.transmit.proofs.Numbers.{left_all, left-gap, mark_is, number_is, numb
 use Rattle.transmit.proofs.acknowledged_count.Goals as goal
 use Rattle.transmit.proofs.acknowledged_count.Goals.{then-records-q-ne0+else-not-after, else-records-q-ne0}
 
-pub slots_in-slots-requires : goal.slots_in-slots-requires
-slots_in-slots-requires c = omega arith
-
-pub overflow_cast-reach : goal.overflow_cast-reach
-overflow_cast-reach c = omega arith
-
 pub loop-i-init : goal.loop-i-init
 loop-i-init c =
     let a = c.args in
     let e = ap (acknowledged_by a.una) (left_all a.ring (store_of 8 (lists a.records.now []))) in
-    (omega arith, omega arith, omega arith)
-
-pub overflow_cast-ring : goal.overflow_cast-ring
-overflow_cast-ring c = omega arith
-
-pub place_of-q-requires : goal.place_of-q-requires
-place_of-q-requires c = omega arith
-
-pub offset_bounds-records-q : goal.offset_bounds-records-q
-offset_bounds-records-q c = omega arith
-
-pub bounds-records-q : goal.bounds-records-q
-bounds-records-q c = omega arith
-
-pub number_at-requires : goal.number_at-requires
-number_at-requires c = omega arith
-
-pub after-requires : goal.after-requires
-after-requires c = omega arith
+    (omega arith, omega arith)
 
 pub returns-then-not-after : goal.returns-then-not-after
 returns-then-not-after c =
@@ -50,18 +26,9 @@ returns-then-not-after c =
     let p = c.place_of-q.ensures in
     let u = c.number_at.ensures ∙ number_is a.ring a.records.now [] l.i e p 2 in
     let s = counts-stop a.una a.ring m l.i (omega arith) (λ z. c.if-records-q-ne0.true (mark_is a.ring a.records.now [] l.i e p ∙ z)) (sym (ap (after a.una) u) ∙ sym c.after.ensures ∙ c.if-not-after.true) in
-    let i = l.invariant.2 in
+    let i = l.invariant.1 in
     let n : l.n ≡ acknowledged_by a.una (flying_numbers a.ring m) = omega arith in
     λ room. n ∙ ap (acknowledged_by a.una) (numbers-room a.ring a.records.now [] room)
-
-pub overflow_add-n : goal.overflow_add-n
-overflow_add-n c = omega arith
-
-pub overflow_add-i : goal.overflow_add-i
-overflow_add-i c = omega arith
-
-pub loop-i-smaller : goal.loop-i-smaller
-loop-i-smaller c = omega arith
 
 pub loop-i-preserved : goal.loop-i-preserved
 loop-i-preserved c =
@@ -71,15 +38,15 @@ loop-i-preserved c =
     let e = c.slots_in-slots.ensures in
     let p = c.place_of-q.ensures in
     let k = mark_is a.ring a.records.now [] l.i e p in
-    let i = l.invariant.2 in
+    let i = l.invariant.1 in
     elim c.if-records-q-ne0.branch [
       | then-records-q-ne0+else-not-after w ↦
           let u = w.number_at.ensures ∙ number_is a.ring a.records.now [] l.i e p 2 in
           let s = counts_on a.una a.ring m l.i (omega arith) (λ z. w.if-records-q-ne0.true (k ∙ z)) (sym (ap (after a.una) u) ∙ sym w.after.ensures ∙ w.if-not-after.false) in
-          (omega arith, omega arith, omega arith)
+          (omega arith, omega arith)
       | else-records-q-ne0 w ↦
           let s = ap (acknowledged_by a.una) (left-gap a.ring m l.i (omega arith) (sym k ∙ w.if-records-q-ne0.false)) in
-          (omega arith, omega arith, omega arith)
+          (omega arith, omega arith)
     ]
 
 pub returns : goal.returns
@@ -88,6 +55,6 @@ returns c =
     let m = store_of 8 (lists a.records.now []) in
     let l = c.loop-i in
     let s = counts_end a.una a.ring m l.i (omega arith) in
-    let i = l.invariant.2 in
+    let i = l.invariant.1 in
     let n : l.n ≡ acknowledged_by a.una (flying_numbers a.ring m) = omega arith in
     λ room. n ∙ ap (acknowledged_by a.una) (numbers-room a.ring a.records.now [] room)

@@ -1,5 +1,5 @@
 -- `transmit::acknowledged_count` meets its contract: n are counted, and what is left from index i on is still to be counted. Assumes nothing.
-use Prim.Native.Nat.{◌+◌, ◌-◌, ◌≤◌}
+use Prim.Native.Nat.{◌+◌, ◌≤◌}
 use mathlib.Core.Path.{◌≡◌}
 use mathlib.Core.List.{[]}
 use Rattle.ring.specs.Lists.{lists}
@@ -11,7 +11,4 @@ use Rattle.transmit.proofs.acknowledged_count.Given as goal
 
 abbrev pub invariant-loop-i : goal.invariant-loop-i
 invariant-loop-i l =
-    (l.i ≤ l.ring.reach) × (l.n ≤ l.i) × (l.n + more l.una l.ring (store_of 8 (lists l.records [])) l.i ≡ acknowledged_by l.una (flying_numbers l.ring (store_of 8 (lists l.records []))))
-
-abbrev pub decreases-loop-i : goal.decreases-loop-i
-decreases-loop-i l = l.ring.reach - l.i
+    (l.n ≤ l.i) × (l.n + more l.una l.ring (store_of 8 (lists l.records [])) l.i ≡ acknowledged_by l.una (flying_numbers l.ring (store_of 8 (lists l.records []))))

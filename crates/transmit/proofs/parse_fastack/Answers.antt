@@ -1,25 +1,24 @@
 -- `transmit::parse_fastack` meets its contract. Assumes nothing.
-use native.Mathlib.Omega.{arith}
 use Rattle.ring.specs.Lists.{lists}
 use Rattle.snd_ring.specs.Store.{store_of}
-use Rattle.transmit.proofs.Steps.{asks, fastack_yes, fastack_no}
+use Rattle.transmit.proofs.Steps.{inside, fastack_none, fastack_yes, fastack_no}
 use Rattle.transmit.proofs.parse_fastack.Goals as goal
 
 pub raise-requires : goal.raise-requires
 raise-requires c =
-    let w = asks c.requires in
-    record {
-      records_len_bound = omega arith;
-      start_in_bounds = omega arith;
-      reach_in_bounds = omega arith;
-    }
+    inside c.requires
 
-pub returns-then-counts : goal.returns-then-counts
-returns-then-counts c =
+pub returns-then-in_range : goal.returns-then-in_range
+returns-then-in_range c =
     let a = c.args in
-    λ room. fastack_yes a.latest a.sender (store_of 8 (lists a.records.now room)) c.counts.ensures c.if-counts.true (c.raise.ensures room)
+    λ room. rw c.in-Some.is (fastack_yes c.in-Some.ack a.sender (store_of 8 (lists a.records.now room)) c.in_range.ensures c.if-in_range.true (c.raise.ensures room))
 
-pub returns-else-counts : goal.returns-else-counts
-returns-else-counts c =
+pub returns-else-in_range : goal.returns-else-in_range
+returns-else-in_range c =
     let a = c.args in
-    λ room. fastack_no a.latest a.sender (store_of 8 (lists a.records.now room)) c.counts.ensures c.if-counts.false
+    λ room. rw c.in-Some.is (fastack_no c.in-Some.ack a.sender (store_of 8 (lists a.records.now room)) c.in_range.ensures c.if-in_range.false)
+
+pub returns-in_default : goal.returns-in_default
+returns-in_default c =
+    let a = c.args in
+    λ room. rw c.in_default.is (fastack_none a.sender (store_of 8 (lists a.records.now room)))

@@ -5,17 +5,12 @@ use mathlib.Core.List.{[]}
 use lib.ListN.{length}
 use Rattle.ring.specs.Lists.{lists}
 use Rattle.snd_ring.proofs.Splits.{marks-length, part-marks}
-use Rattle.transmit.proofs.Steps.{asks, few, una_left, una-done}
+use Rattle.transmit.proofs.Steps.{asks, inside, few, una_left, una-done}
 use Rattle.transmit.proofs.parse_una.Goals as goal
 
 pub acknowledged_count-n-requires : goal.acknowledged_count-n-requires
 acknowledged_count-n-requires c =
-    let w = asks c.requires in
-    record {
-      records_len_bound = omega arith;
-      start_in_bounds = omega arith;
-      reach_in_bounds = omega arith;
-    }
+    inside c.requires
 
 pub drop_front-less-requires : goal.drop_front-less-requires
 drop_front-less-requires c =
@@ -23,8 +18,7 @@ drop_front-less-requires c =
     let w = asks c.requires in
     let n = ap length (part-marks 8 a.records.now [] _ c.slots_in-slots.ensures) ∙ marks-length 8 (lists a.records.now []) in
     record {
-      marks_len_bound = omega arith;
-      start_in_bounds = omega arith;
+      within = record { many = omega arith; started = omega arith };
       unsent_in_bounds = omega arith;
       k_le_flying = few c.requires c.args.una c.slots_in-slots.ensures c.acknowledged_count-n.ensures;
     }

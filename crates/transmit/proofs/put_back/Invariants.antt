@@ -1,5 +1,5 @@
 -- `transmit::put_back` meets its contract: what is left to write from record i on is the whole. Assumes nothing.
-use Prim.Native.Nat.{ℕ, ◌-◌, ◌≤◌}
+use Prim.Native.Nat.{ℕ, ◌-◌}
 use mathlib.Core.Path.{◌≡◌}
 use mathlib.Core.List.{List}
 use lib.ListN.{length}
@@ -10,8 +10,4 @@ use Rattle.transmit.proofs.put_back.Given as goal
 
 abbrev pub invariant-loop-i : goal.invariant-loop-i
 invariant-loop-i l =
-    (l.i ≤ l.n) × (length l.records ≡ length l.initial.records)
-    × ((room : List ℕ) → put_back l.fs l.q l.i (l.n - l.i) (store_of 8 (lists l.records room)) ≡ put_back l.fs l.q 0 l.n (store_of 8 (lists l.initial.records room)))
-
-abbrev pub decreases-loop-i : goal.decreases-loop-i
-decreases-loop-i l = l.n - l.i
+    (room : List ℕ) → put_back l.flights l.q l.i (length l.flights - l.i) (store_of 8 (lists l.records room)) ≡ put_back l.flights l.q 0 (length l.flights) (store_of 8 (lists l.initial.records room))

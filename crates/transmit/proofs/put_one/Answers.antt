@@ -5,9 +5,9 @@ use Rattle.transmit.proofs.put_one.Goals as goal
 pub returns-then-records-q-eq0 : goal.returns-then-records-q-eq0
 returns-then-records-q-eq0 c =
     let a = c.args in
-    λ room. put_none a.f a.records.now room a.q c.requires.slots_value c.requires.q_lt_slots c.if-records-q-eq0.true
+    λ room. put_none a.f a.records.now room a.q c.requires.q_lt_slots c.if-records-q-eq0.true
 
 pub returns : goal.returns
 returns c =
     let a = c.args in
-    λ room. put_some a.f a.records.now room a.q c.requires.slots_value c.requires.q_lt_slots c.if-records-q-eq0.false (c.put_number.ensures room)
+    λ room. put_some a.f a.records.now room a.q c.requires.q_lt_slots c.if-records-q-eq0.false (c.put_number.ensures room)

@@ -1,8 +1,7 @@
 -- `transmit::raise_run` meets its contract: what is left of the run from q on is the whole. Assumes nothing.
-use Prim.Native.Nat.{ℕ, ◌-◌, ◌≤◌}
+use Prim.Native.Nat.{ℕ, ◌-◌}
 use mathlib.Core.Path.{◌≡◌}
 use mathlib.Core.List.{List}
-use lib.ListN.{length}
 use Rattle.ring.specs.Lists.{lists}
 use Rattle.snd_ring.specs.Store.{store_of}
 use Rattle.transmit.specs.Portions.{raised_run}
@@ -10,8 +9,4 @@ use Rattle.transmit.proofs.raise_run.Given as goal
 
 abbrev pub invariant-loop-q : goal.invariant-loop-q
 invariant-loop-q l =
-    (l.q ≤ l.to) × (length l.records ≡ length l.initial.records)
-    × ((room : List ℕ) → raised_run l.max_ack l.latest_ts l.q (l.to - l.q) (store_of 8 (lists l.records room)) ≡ raised_run l.max_ack l.latest_ts l.from (l.to - l.from) (store_of 8 (lists l.initial.records room)))
-
-abbrev pub decreases-loop-q : goal.decreases-loop-q
-decreases-loop-q l = l.to - l.q
+    (room : List ℕ) → raised_run l.latest.sn l.latest.ts l.q (l.to - l.q) (store_of 8 (lists l.records room)) ≡ raised_run l.latest.sn l.latest.ts l.from (l.to - l.from) (store_of 8 (lists l.initial.records room))

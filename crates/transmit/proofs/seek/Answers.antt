@@ -8,15 +8,12 @@ returns-then-ring-at c =
     let a = c.args in
     none-met a.sn a.ring a.records.now _ c.seek_index-at.ensures c.if-ring-at.true
 
-pub place_of-q-requires : goal.place_of-q-requires
-place_of-q-requires c = let h = c.seek_index-at.ensures.high in omega arith
-
 pub returns-then-number_at-sn : goal.returns-then-number_at-sn
 returns-then-number_at-sn c =
     let a = c.args in
-    is-met a.sn a.ring a.records.now _ c.seek_index-at.ensures (omega arith) c.slots_in-slots.ensures c.place_of-q.ensures c.number_at.ensures c.if-number_at-sn.true
+    is_past a.sn a.ring a.records.now _ c.seek_index-at.ensures (omega arith) c.slots_in.ensures c.place_of-q.ensures c.number_at.ensures c.if-number_at-sn.true
 
 pub returns : goal.returns
 returns c =
     let a = c.args in
-    is_past a.sn a.ring a.records.now _ c.seek_index-at.ensures (omega arith) c.slots_in-slots.ensures c.place_of-q.ensures c.number_at.ensures c.if-number_at-sn.false
+    is-met a.sn a.ring a.records.now _ c.seek_index-at.ensures (omega arith) c.slots_in.ensures c.place_of-q.ensures c.number_at.ensures c.if-number_at-sn.false

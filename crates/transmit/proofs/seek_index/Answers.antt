@@ -7,23 +7,17 @@ use Rattle.transmit.specs.Memory.{ends_at}
 use Rattle.transmit.proofs.Run.{one-run, in-first, in-second, by_slots}
 use Rattle.transmit.proofs.seek_index.Goals as goal
 
-pub overflow_sub-result : goal.overflow_sub-result
-overflow_sub-result c = let a = c.seek_run.ensures.low in omega arith
-
 pub returns-then-reach-left : goal.returns-then-reach-left
 returns-then-reach-left c =
     let a = c.args in
-    by_slots a.sn a.ring a.records.now c.requires.slots_value
-    (one-run (ends_at a.sn (store_of 8 (lists a.records.now []))) a.slots a.ring.start a.ring.reach (omega arith) _ c.seek_run.ensures)
-
-pub overflow_sub-result-then-q-slots : goal.overflow_sub-result-then-q-slots
-overflow_sub-result-then-q-slots c = let a = c.seek_run-q.ensures.low in omega arith
+    by_slots a.sn a.ring a.records.now c.slots_in-slots.ensures
+    (one-run (ends_at a.sn (store_of 8 (lists a.records.now []))) c.slots_in-slots.result a.ring.start a.ring.reach (omega arith) _ c.seek_run.ensures)
 
 pub returns-then-q-slots : goal.returns-then-q-slots
 returns-then-q-slots c =
     let a = c.args in
-    by_slots a.sn a.ring a.records.now c.requires.slots_value
-    (in-first (ends_at a.sn (store_of 8 (lists a.records.now []))) a.slots a.ring.start a.ring.reach (omega arith) (omega arith) _ c.seek_run-q.ensures c.if-q-slots.true)
+    by_slots a.sn a.ring a.records.now c.slots_in-slots.ensures
+    (in-first (ends_at a.sn (store_of 8 (lists a.records.now []))) c.slots_in-slots.result a.ring.start a.ring.reach (omega arith) (omega arith) _ c.seek_run-q.ensures c.if-q-slots.true)
 
 pub overflow_add-result : goal.overflow_add-result
 overflow_add-result c = let a = c.seek_run-2.ensures.high in omega arith
@@ -31,5 +25,5 @@ overflow_add-result c = let a = c.seek_run-2.ensures.high in omega arith
 pub returns : goal.returns
 returns c =
     let a = c.args in
-    by_slots a.sn a.ring a.records.now c.requires.slots_value
-    (in-second (ends_at a.sn (store_of 8 (lists a.records.now []))) a.slots a.ring.start a.ring.reach (omega arith) (omega arith) _ c.seek_run-q.ensures (omega arith) _ c.seek_run-2.ensures)
+    by_slots a.sn a.ring a.records.now c.slots_in-slots.ensures
+    (in-second (ends_at a.sn (store_of 8 (lists a.records.now []))) c.slots_in-slots.result a.ring.start a.ring.reach (omega arith) (omega arith) _ c.seek_run-q.ensures (omega arith) _ c.seek_run-2.ensures)

@@ -12,7 +12,6 @@ pub number_at-requires : goal.number_at-requires
 number_at-requires c =
     let w = asks c.requires in
     record {
-      slots_value = omega arith;
       q_lt_slots = omega arith;
       k_bound = omega arith;
     }

@@ -6,6 +6,6 @@ use Rattle.wire.proofs.get_sn.Goals as goal
 pub returns-then-buf-lt-OVERHEAD : goal.returns-then-buf-lt-OVERHEAD
 returns-then-buf-lt-OVERHEAD c = got-short _ c.if-buf-lt-OVERHEAD.true sn_of
 
-pub returns : goal.returns
+pub returns-else-buf-lt-OVERHEAD : goal.returns-else-buf-lt-OVERHEAD
 unfolding header_at
-returns c = got_whole _ c.if-buf-lt-OVERHEAD.false sn_of c.word.ensures
+returns-else-buf-lt-OVERHEAD c = got_whole _ c.if-buf-lt-OVERHEAD.false sn_of c.word.ensures

@@ -1,5 +1,5 @@
 -- `kcp_c::sender::kcp_send_test` meets its contract: by whether the words are a block, and by the test of block and memory. Assumes nothing.
-use mathlib.Core.Path.{sym, ◌∙◌}
+use mathlib.Core.Path.{refl, sym, ◌∙◌}
 use Rattle.serial.specs.Branch.{pick_true, pick-false}
 use Rattle.ring.specs.Lists.{lists}
 use Rattle.transmit.proofs.Exact.{fits-tested}
@@ -10,20 +10,17 @@ use Rattle.std.proofs.Common.{ap}
 use Rattle.std.proofs.Common.{not}
 use Rattle.kcp_c.proofs.sender.kcp_send_test.Goals as goal
 
-pub returns-then-not-is_block : goal.returns-then-not-is_block
-returns-then-not-is_block c =
+pub returns-in_default : goal.returns-in_default
+returns-in_default c =
     let a = c.args in
-    tested_none (λ k. send_fits k (lists a.records.now a.room.now)) _ c.is_block.ensures (ap not c.if-not-is_block.true)
-
-pub block-block-requires : goal.block-block-requires
-block-block-requires c = held-length _ c.is_block.ensures (ap not c.if-not-is_block.false)
+    tested_none (λ k. send_fits k (lists a.records.now a.room.now)) _ (sym c.in_default.ensures) refl
 
 pub returns-then-fits : goal.returns-then-fits
 returns-then-fits c =
     let a = c.args in
-    sym (pick_true 0 15 c.if-fits.true) ∙ tested_by (λ k. send_fits k (lists a.records.now a.room.now)) _ c.is_block.ensures (ap not c.if-not-is_block.false) c.block-block.ensures (fits-tested _ c.own_numbers.ensures (lists a.records.now a.room.now) c.fits.ensures)
+    sym (pick_true 0 15 c.if-fits.true) ∙ tested_by (λ k. send_fits k (lists a.records.now a.room.now)) _ (sym c.in-Some.ensures.0) refl c.in-Some.ensures.1 (fits-tested _ c.own_numbers.ensures (lists a.records.now a.room.now) c.fits.ensures)
 
-pub returns : goal.returns
-returns c =
+pub returns-else-fits : goal.returns-else-fits
+returns-else-fits c =
     let a = c.args in
-    sym (pick-false 0 15 c.if-fits.false) ∙ tested_by (λ k. send_fits k (lists a.records.now a.room.now)) _ c.is_block.ensures (ap not c.if-not-is_block.false) c.block-block.ensures (fits-tested _ c.own_numbers.ensures (lists a.records.now a.room.now) c.fits.ensures)
+    sym (pick-false 0 15 c.if-fits.false) ∙ tested_by (λ k. send_fits k (lists a.records.now a.room.now)) _ (sym c.in-Some.ensures.0) refl c.in-Some.ensures.1 (fits-tested _ c.own_numbers.ensures (lists a.records.now a.room.now) c.fits.ensures)

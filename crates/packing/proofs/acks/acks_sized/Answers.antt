@@ -7,28 +7,20 @@ use Rattle.packing.proofs.Turns.{going_start, going-within, going_on, going_end}
 use Rattle.packing.proofs.AckBytes.{each_alike, total_alike, alike_all, alike_next, alike_none}
 use Rattle.packing.proofs.acks.acks_sized.Goals as goal
 
-pub loop-i-init : goal.loop-i-init
-loop-i-init c = (omega arith, rw (alike_all _ 24) (going_start _ _ _ (omega arith) (each_alike 1500 24 c.args.n (omega arith))))
+pub loop-init : goal.loop-init
+loop-init c = rw (alike_all _ 24) (going_start _ _ _ (omega arith) (each_alike 1500 24 c.args.n (omega arith)))
 
 pub size-q-requires : goal.size-q-requires
 size-q-requires c =
     let n = c.args.n in
-    let w = going-within _ (replicate n 24) (rw (alike_next n _ 24 c.loop-i-test.true) at c.loop-i.invariant.1) refl in
+    let w = going-within _ (replicate n 24) (rw (alike_next n _ 24 c.loop-test.true) at c.loop.invariant) refl in
     record {
       n_bound = omega (arith, w.0, total_alike n 24);
       count_bound = omega (arith, w.1, length-replicate {A = ℕ} n 24);
     }
 
-pub overflow_add-i : goal.overflow_add-i
-overflow_add-i c = omega arith
-
-pub loop-i-smaller : goal.loop-i-smaller
-loop-i-smaller c = omega arith
-
-pub loop-i-preserved : goal.loop-i-preserved
-loop-i-preserved c =
-    let g = rw (alike_next _ _ 24 c.loop-i-test.true) at c.loop-i.invariant.1 in
-    (omega arith, going_on _ g (omega arith) c.size-q.ensures)
+pub loop-preserved : goal.loop-preserved
+loop-preserved c = going_on _ (rw (alike_next _ _ 24 c.loop-test.true) at c.loop.invariant) (omega arith) c.size-q.ensures
 
 pub returns : goal.returns
-returns c = going_end (rw (alike_none _ _ 24 c.loop-i-test.false) at c.loop-i.invariant.1)
+returns c = going_end (rw (alike_none _ _ 24 c.loop-test.false) at c.loop.invariant)

@@ -32,9 +32,6 @@ acks_cut-a-requires c =
       n_in_bounds = rw (u, k) (omega (arith, (fronting-fits g).1));
     }
 
-pub probe_head-asking-requires : goal.probe_head-asking-requires
-probe_head-asking-requires c = c.requires.n_in_bounds
-
 pub probe_put-b-requires : goal.probe_put-b-requires
 probe_put-b-requires c =
     let args = c.args in
@@ -47,9 +44,6 @@ probe_put-b-requires c =
       head_in_bounds = r.1.1.0;
       head_in_bounds_2 = r.1.1.1;
     }
-
-pub probe_head-telling-requires : goal.probe_head-telling-requires
-probe_head-telling-requires c = c.requires.n_in_bounds
 
 pub probe_put-requires : goal.probe_put-requires
 probe_put-requires c =

@@ -8,6 +8,6 @@ pub returns-then-on : goal.returns-then-on
 unfolding pick
 returns-then-on c = rw c.if-on.true c.size.ensures
 
-pub returns : goal.returns
+pub returns-else-on : goal.returns-else-on
 unfolding pick
-returns c = rw c.if-on.false (sym (sized_none _ _))
+returns-else-on c = rw c.if-on.false (sym (sized_none _ _))

@@ -2,8 +2,5 @@
 use Rattle.recorded.proofs.Making.{sends_in}
 use Rattle.recorded.proofs.calls.send_in.Goals as goal
 
-pub by_send-requires : goal.by_send-requires
-by_send-requires c = tt
-
 pub returns : goal.returns
-returns c = sends_in _ _ _ _ c.fill.ensures c.send-out.ensures.is c.by_send.ensures
+returns c = sends_in _ _ _ _ c.fill.ensures c.send.ensures.is c.by_send.ensures

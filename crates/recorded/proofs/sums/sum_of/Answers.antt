@@ -1,15 +1,15 @@
 -- `recorded::sums::sum_of` meets its contract. The loop's invariant: the sum so far and the numbers left give the sum. Assumes nothing.
-use Rattle.std.proofs.Common.{sym, ◌∙◌, arith}
+use Rattle.std.proofs.Common.{sym, ◌∙◌}
 use Rattle.recorded.proofs.Loops.{sum_first, sum_more, sum-end}
 use Rattle.recorded.proofs.sums.sum_of.Goals as goal
 
-pub loop-i-init : goal.loop-i-init
-loop-i-init c = (omega arith, sum_first _)
+pub loop-x-init : goal.loop-x-init
+loop-x-init g c = λ f w. sum_first f _
 
-pub loop-i-preserved : goal.loop-i-preserved
-loop-i-preserved c =
-    let l = c.loop-i in
-    (omega arith, rw (c.add-sum.ensures, c.mul.ensures, c.add-place.ensures) (sum_more _ l.place l.sum l.i (omega arith) ∙ l.invariant.1))
+pub loop-x-preserved : goal.loop-x-preserved
+loop-x-preserved g c =
+    let l = c.loop-x in
+    λ f w. sum_more f _ c.x-item.result l.place l.sum l.x-index c.into-n.result c.loop-x-test.true c.x-item.is (w _ _ c.into-n.ensures) ∙ l.invariant f w
 
 pub returns : goal.returns
-returns c = let l = c.loop-i in sym (sum-end _ l.place l.sum l.i (omega arith)) ∙ l.invariant.1
+returns g c = let l = c.loop-x in λ f w. sym (sum-end f _ l.place l.sum l.x-index c.loop-x-test.false) ∙ l.invariant f w

@@ -1,15 +1,11 @@
--- `replay::judge::run` meets its contract. The loop's invariant: the tally of the whole is that from here, and no lent memory changes its length. Assumes nothing.
-use native.Mathlib.Omega.{arith}
-use mathlib.Core.Path.{refl, ap, ◌∙◌}
+-- `replay::judge::run` meets its contract. The loop's invariant: the tally of the whole is that from here, over the same lent memory. Assumes nothing.
+use Rattle.std.proofs.Common.{refl, ap, ◌∙◌, arith}
 use Rattle.recorded.specs.declared.rows.Row.{Row}
 use Rattle.replay.proofs.Judging.{here-first, ends, goes, from_block}
 use Rattle.replay.proofs.judge.run.Goals as goal
 
-pub unplayed-made-requires : goal.unplayed-made-requires
-unplayed-made-requires c = tt
-
 pub loop-made-init : goal.loop-made-init
-loop-made-init c = (here-first _ _, refl, refl, refl, refl, refl, refl)
+loop-made-init c = (here-first _ _, (refl, refl, refl, refl, refl, refl))
 
 pub whole-requires : goal.whole-requires
 whole-requires c = c.loop-made.invariant.0.within
@@ -20,11 +16,8 @@ row_at-row-requires c = (c.whole.ensures.whole c.loop-made-test.true).numbers
 pub overflow_add-from : goal.overflow_add-from
 overflow_add-from c = let w = c.whole.ensures.whole c.loop-made-test.true in let n = w.numbers in let b = w.bytes in omega (arith, c.well_formed)
 
-pub wide-requires : goal.wide-requires
-wide-requires c = tt
-
 pub overflow_add-to : goal.overflow_add-to
-overflow_add-to c = let w = c.whole.ensures.whole c.loop-made-test.true in let n = w.numbers in let b = w.bytes in omega (arith, ap (λ (r : Row). r.bytes) c.row_at-row.ensures, c.wide.ensures.value, c.well_formed)
+overflow_add-to c = let w = c.whole.ensures.whole c.loop-made-test.true in let n = w.numbers in let b = w.bytes in omega (arith, ap (λ (r : Row). r.bytes) c.row_at-row.ensures, c.well_formed)
 
 pub slice_bounds-make-count : goal.slice_bounds-make-count
 slice_bounds-make-count c = let w = c.whole.ensures.whole c.loop-made-test.true in let n = w.numbers in let b = w.bytes in omega arith
@@ -33,13 +26,7 @@ pub slice_bounds-make-start : goal.slice_bounds-make-start
 slice_bounds-make-start c = let w = c.whole.ensures.whole c.loop-made-test.true in let n = w.numbers in let b = w.bytes in omega arith
 
 pub slice_bounds-make-end : goal.slice_bounds-make-end
-slice_bounds-make-end c = let w = c.whole.ensures.whole c.loop-made-test.true in let n = w.numbers in let b = w.bytes in omega (arith, ap (λ (r : Row). r.bytes) c.row_at-row.ensures, c.wide.ensures.value)
-
-pub make-made-requires : goal.make-made-requires
-make-made-requires c = tt
-
-pub agrees-requires : goal.agrees-requires
-agrees-requires c = tt
+slice_bounds-make-end c = let w = c.whole.ensures.whole c.loop-made-test.true in let n = w.numbers in let b = w.bytes in omega (arith, ap (λ (r : Row). r.bytes) c.row_at-row.ensures)
 
 pub with-tally-requires : goal.with-tally-requires
 with-tally-requires c =
@@ -58,33 +45,11 @@ loop-made-smaller c = let w = c.whole.ensures.whole c.loop-made-test.true in let
 
 pub loop-made-preserved : goal.loop-made-preserved
 loop-made-preserved c =
-    let l = c.loop-made.invariant in (
-      goes _ l.0 c.whole.ensures.value c.loop-made-test.true (c.whole.ensures.whole c.loop-made-test.true) c.row_at-row.ensures c.wide.ensures.value c.make-made.ensures c.agrees.ensures c.with-tally.ensures,
-      c.make-made.auto.rcv_records ∙ l.1,
-      c.make-made.auto.rcv_room ∙ l.2,
-      c.make-made.auto.snd_records ∙ l.3,
-      c.make-made.auto.snd_room ∙ l.4,
-      c.make-made.auto.acks ∙ l.5,
-      c.make-made.auto.waiting ∙ l.6,
+    let l = c.loop-made.invariant in
+    let k = c.make-made.ensures.kept in (
+      goes _ l.0 c.whole.ensures.value c.loop-made-test.true (c.whole.ensures.whole c.loop-made-test.true) c.row_at-row.ensures refl c.make-made.ensures.is c.agrees.ensures c.with-tally.ensures,
+      (k.0 ∙ l.1.0, k.1 ∙ l.1.1, k.2 ∙ l.1.2, k.3 ∙ l.1.3, k.4 ∙ l.1.4, k.5 ∙ l.1.5),
     )
 
-pub shape_of-rcv_records : goal.shape_of-rcv_records
-shape_of-rcv_records c = c.loop-made.invariant.1
-
-pub shape_of-rcv_room : goal.shape_of-rcv_room
-shape_of-rcv_room c = c.loop-made.invariant.2
-
-pub shape_of-snd_records : goal.shape_of-snd_records
-shape_of-snd_records c = c.loop-made.invariant.3
-
-pub shape_of-snd_room : goal.shape_of-snd_room
-shape_of-snd_room c = c.loop-made.invariant.4
-
-pub shape_of-acks : goal.shape_of-acks
-shape_of-acks c = c.loop-made.invariant.5
-
-pub shape_of-waiting : goal.shape_of-waiting
-shape_of-waiting c = c.loop-made.invariant.6
-
 pub returns : goal.returns
-returns c = from_block _ _ _ _ _ _ _ c.unplayed-made.ensures (ends _ c.loop-made.invariant.0 c.whole.ensures.value c.loop-made-test.false)
+returns c = from_block _ c.args.lent.now c.unplayed-made.ensures (ends _ c.loop-made.invariant.0 c.whole.ensures.value c.loop-made-test.false)

@@ -1,19 +1,18 @@
--- `wire::Header::bytes` meets its contract. What `split` ensures of the five numbers of four bytes. Assumes nothing.
-use Prim.Native.Nat.{ℕ}
-use mathlib.Core.Path.{◌≡◌}
-use mathlib.Core.List.{List, ◌∷◌, ◌++◌}
-use Rattle.wire.specs.LittleEndian.{le_bytes}
+-- `wire::Header::bytes` meets its contract. The bytes of each number, where it stands. Assumes nothing.
+use Rattle.std.proofs.Common.{◌∙◌}
 use Rattle.wire.specs.Header.{header_bytes}
+use Rattle.wire.proofs.LittleEndian.{le_two, le_four}
 use Rattle.wire.proofs.Header.bytes.Goals as goal
-
--- five numbers' bytes, with what stands after the first
-laid : {a a' b b' c c' d d' e e' : List ℕ} (m : List ℕ) → a ≡ a' → b ≡ b' → c ≡ c' → d ≡ d' → e ≡ e'
-    → a ++ (m ++ (b ++ (c ++ (d ++ e)))) ≡ a' ++ (m ++ (b' ++ (c' ++ (d' ++ e'))))
-laid m p q r t u = cc
 
 pub returns : goal.returns
 unfolding header_bytes
 returns c =
     let h = c.args.self in
-    laid (h.cmd ∷ h.frg ∷ le_bytes 2 h.wnd) c.split-conv.ensures.bytes c.split-ts.ensures.bytes
-    c.split-sn.ensures.bytes c.split-una.ensures.bytes c.split-len.ensures.bytes
+    rw (
+      c.copy_from_slice.ensures.after ∙ c.to_le_bytes.ensures ∙ le_four h.conv,
+      c.copy_from_slice-2.ensures.after ∙ c.to_le_bytes-2.ensures ∙ le_two h.wnd,
+      c.copy_from_slice-3.ensures.after ∙ c.to_le_bytes-3.ensures ∙ le_four h.ts,
+      c.copy_from_slice-4.ensures.after ∙ c.to_le_bytes-4.ensures ∙ le_four h.sn,
+      c.copy_from_slice-5.ensures.after ∙ c.to_le_bytes-5.ensures ∙ le_four h.una,
+      c.copy_from_slice-6.ensures.after ∙ c.to_le_bytes-6.ensures ∙ le_four h.len,
+    )

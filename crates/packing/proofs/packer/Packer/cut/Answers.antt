@@ -8,8 +8,8 @@ use Rattle.packing.proofs.Turns.{turn-leaves, turn-joins}
 use Rattle.packing.proofs.packer.Packer.cut.Goals as goal
 use Rattle.packing.proofs.packer.Packer.cut.Goals.{then-departs, else-departs}
 
-pub bounds-lengths-count : goal.bounds-lengths-count
-bounds-lengths-count c =
+pub bounds-lengths-self : goal.bounds-lengths-self
+bounds-lengths-self c =
     let args = c.args in
     omega (arith, ap length (turn-leaves args.mtu args.self args.n _ c.departs.ensures c.if-departs.true).1)
 

@@ -1,6 +1,0 @@
--- `replay::recording` meets its contract: a repeat is as long as its count. Assumes nothing.
-use Rattle.recorded.proofs.Zeros.{as_long}
-use Rattle.replay.proofs.recording.Goals as goal
-
-pub returns : goal.returns
-returns c = as_long 1048576

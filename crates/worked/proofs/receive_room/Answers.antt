@@ -1,8 +1,0 @@
--- `worked::receive_room` meets its contract: a repeat is as long as its count. Assumes nothing.
-use Prim.Native.Nat.{ℕ}
-use mathlib.Core.Path.{sym}
-use lib.ListN.{length-replicate}
-use Rattle.worked.proofs.receive_room.Goals as goal
-
-pub returns : goal.returns
-returns c = sym (length-replicate {0} {A = ℕ} 377856 0)
