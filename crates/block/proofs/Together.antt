@@ -13,7 +13,3 @@ stops t h = rw h
 -- where the first holds, either does
 pub has : {s : Bool} (t : Bool) → s ≡ true → true ≡ (s || t)
 has t h = rw h
-
--- where the first fails, the second decides
-pub lacks : {s : Bool} (t : Bool) → s ≡ false → t ≡ (s || t)
-lacks t h = rw h

@@ -31,6 +31,6 @@ impl Probe {
         ensures { result ≡ probe_fits self }
     {
         let wait = self.probe_wait;
-        wait == 0 || (Kcp::PROBE_INIT <= wait && wait <= Kcp::PROBE_LIMIT)
+        wait == 0 || (Kcp::PROBE_INIT..=Kcp::PROBE_LIMIT).contains(&wait)
     }
 }

@@ -26,7 +26,7 @@ pub enum Refusal {
     ShortHeader,
 }
 
-// The values of a refusal as a row: how many there are, and 0 in the place of one that is missing.
+// The values of a refusal as a row: how many there are, as `row_of` counts them, and 0 in the place of one that is missing.
 #[derive(Clone, Copy, Debug, PartialEq, Eq)]
 pub struct Values {
     pub count: u32,

@@ -8,7 +8,7 @@ use crate::Kcp;
 pub fn within(least: usize, x: usize, most: usize) -> bool
     ensures { result ≡ within least x most }
 {
-    least <= x && x <= most
+    (least..=most).contains(&x)
 }
 
 // Whether these are the lengths of a ring's memory, of `least` to 1,024 slots.

@@ -227,30 +227,19 @@ pub fn due_write(
     ring: SndRing,
     records: &mut [u32],
     room: &[u8],
-    pace: Pace,
-    told: Told,
-    dead_link: u32,
-    mtu: usize,
+    way: Way,
     out: &mut [u8],
     lengths: &mut [u16],
-    packer: Packer,
-    tally: Tally,
+    before: Written,
 ) -> Written
     requires sound { Sound 8 ring (store_of 8 (lists records.old room.now)) }
-    requires mtu_bound { mtu ≤ 1500 }
-    requires roomy { Roomy mtu packer out.old lengths.old (pieces_over told pace (flight_places ring (store_of 8 (lists records.old room.now))) (store_of 8 (lists records.old room.now))) }
+    requires mtu_bound { way.mtu ≤ 1500 }
+    requires roomy { Roomy way.mtu before.packer out.old lengths.old (pieces_over way.told way.pace (flight_places ring (store_of 8 (lists records.old room.now))) (store_of 8 (lists records.old room.now))) }
     ensures { pass (store_of 8 (lists records.new room.now)) out.new lengths.new result.packer result.tally
-        ≡ pass_over told pace dead_link mtu (flight_places ring (store_of 8 (lists records.old room.now))) (pass (store_of 8 (lists records.old room.now)) out.old lengths.old packer tally) }
+        ≡ pass_over way.told way.pace way.dead_link way.mtu (flight_places ring (store_of 8 (lists records.old room.now))) (pass (store_of 8 (lists records.old room.now)) out.old lengths.old before.packer before.tally) }
 {
     let slots = snd_ring::slots_in(records.len());
     let runs = flight::runs_of(slots, ring.start as usize, 0, ring.reach as usize);
-    let way = Way {
-        told,
-        pace,
-        dead_link,
-        mtu,
-    };
-    let start = Written { packer, tally };
-    let w = write_run(records, room, runs.from, runs.to, way, out, lengths, start);
+    let w = write_run(records, room, runs.from, runs.to, way, out, lengths, before);
     write_run(records, room, 0, runs.rest, way, out, lengths, w)
 }

@@ -6,18 +6,12 @@ ghost use Rattle.flushing.specs.Probing.{ask_set, tell_set, ask_bit, longer_wait
 use block::Kcp;
 use block::probe::Probe;
 
-// The bit of an ask that is to go out.
-const ASK: u32 = 1;
-
-// The bit of a tell.
-const TELL: u32 = 2;
-
 // Whether an ask is to go out.
 #[tactic(auto, using(crate::proofs::Bits::ask_tested))]
 pub fn ask_set(bits: u32) -> bool
     ensures { result ≡ ask_set bits }
 {
-    bits & ASK != 0
+    bits & Kcp::ASK_SEND != 0
 }
 
 // Whether a tell is to go out.
@@ -25,7 +19,7 @@ pub fn ask_set(bits: u32) -> bool
 pub fn tell_set(bits: u32) -> bool
     ensures { result ≡ tell_set bits }
 {
-    bits & TELL != 0
+    bits & Kcp::ASK_TELL != 0
 }
 
 // The bits with the ask bit set.
@@ -33,7 +27,7 @@ pub fn tell_set(bits: u32) -> bool
 fn ask_bit(bits: u32) -> u32
     ensures { result ≡ ask_bit bits }
 {
-    bits | ASK
+    bits | Kcp::ASK_SEND
 }
 
 // A wait and half of it, at most the limit.

@@ -85,14 +85,14 @@ pub extern "C" fn kcp_header_bytes(
     ensures { out.new ≡ header_bytes (header conv cmd frg wnd ts sn una len) }
 {
     let h = Header {
-        conv: conv,
-        cmd: cmd,
-        frg: frg,
-        wnd: wnd,
-        ts: ts,
-        sn: sn,
-        una: una,
-        len: len,
+        conv,
+        cmd,
+        frg,
+        wnd,
+        ts,
+        sn,
+        una,
+        len,
     };
     *out = h.bytes();
 }

@@ -66,16 +66,6 @@ module _ (k : Kcp) (acks waiting : List ℕ) where
 paired : {n a w : ℕ} → AckSizes a w → n ≤ pairs a → (2 * n ≤ a) × (w ≡ 1500)
 paired s h = (let p = s.paired in omega arith, s.kept)
 
--- t tells whether the block's own numbers fit
-module _ (k : Kcp) (acks waiting : List ℕ) {t : Bool} (own : t ≡ own_numbers k) where
-  pub no-own-ack : not t ≡ true → false ≡ ack_fits k acks waiting
-  unfolding ack_fits
-  no-own-ack h = stops _ (sym own ∙ not-true t h)
-
-  pub by-acks : not t ≡ false → {r : Bool} → r ≡ ack_lent k.acklist acks waiting → r ≡ ack_fits k acks waiting
-  unfolding ack_fits
-  by-acks h e = e ∙ goes _ (sym own ∙ not-false t h)
-
 together : (a b c : Bool) → (a && (b && c)) ≡ ((a && b) && c)
 together true b c = refl
 together false b c = refl
@@ -88,14 +78,6 @@ never false = refl
 module _ (k : Kcp) (acks waiting : List ℕ) (snd : Lists) {t u : Bool} (own : t ≡ own_numbers k) (sent : u ≡ (t && send_lent k.sender snd)) where
   both : u ≡ (own_numbers k && send_lent k.sender snd)
   both = sent ∙ ap (λ (x : Bool). x && send_lent k.sender snd) own
-
-  pub no-send : not u ≡ true → false ≡ flush_fits k snd acks waiting
-  unfolding flush_fits
-  no-send h = stops _ (sym both ∙ not-true u h) ∙ sym (together (own_numbers k) (send_lent k.sender snd) (ack_lent k.acklist acks waiting))
-
-  pub by_both : not u ≡ false → {r : Bool} → r ≡ ack_lent k.acklist acks waiting → r ≡ flush_fits k snd acks waiting
-  unfolding flush_fits
-  by_both h e = e ∙ goes _ (sym both ∙ not-false u h) ∙ sym (together (own_numbers k) (send_lent k.sender snd) (ack_lent k.acklist acks waiting))
 
 -- ---- flush_ack
 

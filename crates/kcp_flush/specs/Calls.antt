@@ -83,7 +83,7 @@ tick_of c None = record { clock = c; flushes = true }
 
 -- ---- check
 
--- its number and values
+-- the wait, or 15
 unfoldable pub check_of : Kcp → Lists → ℕ → Result ℕ Refusal
 check_of k snd current = pick (send_fits k snd) (Ok (check_at current k (store_of 8 snd))) (Err BadPool)
 

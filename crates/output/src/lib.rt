@@ -17,6 +17,7 @@ use block::acklist::AckList;
 use block::probe::Probe;
 use block::refusal::Refusal;
 use block::sender::Sender;
+use due::{Way, Written};
 use flushing::clock::{Tick, tm_flush, wait_of};
 use flushing::due::{Pace, Tally, pace_of};
 use flushing::headers::Told;
@@ -65,7 +66,7 @@ fn planned(block: Kcp) -> Plan
         told: told(block),
         pace: pace_of(settings, clock.current, estimator.rto),
         probe: probe_wnd_size(block.probe, congestion.rmt_wnd, clock.current),
-        window: window,
+        window,
         leavers: leaving(sender.snd_una, window, sender.snd_nxt, ring.unsent),
     }
 }
@@ -247,19 +248,22 @@ fn rear_put(
         clock.current,
         estimator.rto,
     );
-    let none = uncounted(before);
     let written = due::due_write(
         sender.ring,
         records,
         room,
-        plan.pace,
-        plan.told,
-        settings.dead_link,
-        settings.mtu as usize,
+        Way {
+            told: plan.told,
+            pace: plan.pace,
+            dead_link: settings.dead_link,
+            mtu: settings.mtu as usize,
+        },
         out,
         lengths,
-        front,
-        none,
+        Written {
+            packer: front,
+            tally: uncounted(before),
+        },
     );
     let packer = written.packer;
     let tally = written.tally;

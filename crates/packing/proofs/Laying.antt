@@ -52,10 +52,6 @@ module _ {l : List ℕ} {at : ℕ} {m : List ℕ} where
   pub laying-length : {x : List ℕ} → Laying l at x m → length l ≡ length m
   laying-length {x} g = sym (ap length (sym g.whole) ∙ put-length l at x g.room)
 
-  -- that of the list which all was put into
-  pub laying-kept : {x : List ℕ} (k : List ℕ) (from : ℕ) (y : List ℕ) → Laying l at x m → m ≡ put k from y → from + length y ≤ length k → length l ≡ length k
-  laying-kept k from y g e h = laying-length g ∙ ap length e ∙ put-length k from y h
-
   -- the first part fits
   pub laying-fits : (x y : List ℕ) → Laying l at (x ++ y) m → at + length x ≤ length l
   laying-fits x y g = omega (arith, g.room, length-append x y)

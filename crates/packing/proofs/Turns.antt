@@ -39,14 +39,6 @@ stays_by mtu zero k = of (ltb mtu (zero + k))
     of false = refl
 stays_by mtu (suc n) k = rw (lt-ltb 0 (suc n) (omega arith))
 
-pub departs_none : (mtu n k : ℕ) → n ≡ 0 → false ≡ departs mtu n k
-unfolding departs
-departs_none mtu n k e = rw e
-
-pub departs-some : (mtu n k : ℕ) → (n ≡ 0 → ⊥) → ltb mtu (n + k) ≡ departs mtu n k
-unfolding departs
-departs-some mtu n k h = rw (lt-ltb 0 n (omega (arith, h)))
-
 -- what the packer becomes, and what is put into the lengths
 module _ (mtu : ℕ) (p : Packer) (k : ℕ) where
   pub turn-leaves : (t : Bool) → t ≡ departs mtu p.used k → t ≡ true

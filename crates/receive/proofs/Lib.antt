@@ -5,3 +5,4 @@ pub mod Exact
 pub mod Windows
 pub mod Fronts
 pub mod Pushes
+pub mod Bits

@@ -7,7 +7,7 @@ ghost use Rattle.serial.specs.Window.{in_window};
 ghost use Rattle.ring.specs.Lists.{lists};
 ghost use Rattle.ring.specs.Places.{summed, along};
 ghost use Rattle.ring.specs.Records.{put};
-ghost use Rattle.rcv_ring.specs.Places.{size_at, payload_at};
+ghost use Rattle.rcv_ring.specs.Places.{size_at, payload_at, Within};
 ghost use Rattle.block.specs.WellFormed.{ReceiverFits};
 ghost use Rattle.receiving.specs.Rules.{expects, too_large};
 ghost use Rattle.receive.specs.Memory.{queue_frgs, queue_sizes, side, move_buf_at, stored_in, moved_at, PushedAs, peek_at, length_answer, freed_at, recv_at, tell_bit, with_tell, probe_at, send_window, receive_window, windows_at, Spans};
@@ -136,8 +136,7 @@ pub struct Message {
 
 // The message at the front of the queue: up to the first frg 0 or the queue's end.
 fn message_of(ring: RcvRing, records: &[u32]) -> Message
-    requires records_len_bound { length records.now ≤ 65535 }
-    requires start_in_bounds { ring.start < length records.now }
+    requires within { Within ring records.now }
     requires queued_in_bounds { ring.queued ≤ length records.now }
     ensures { Spans (queue_frgs ring records.now) (queue_sizes ring records.now) result }
 {
@@ -241,11 +240,11 @@ pub fn recv(receiver: Receiver, records: &[u32], room: &[u8], buf: &mut [u8]) ->
 }
 
 // The bits of a probe with the tell bit set.
-#[tactic(auto, unfolding(crate::specs::Memory::tell_bit, serial::specs::Branch::pick))]
+#[tactic(auto, using(crate::proofs::Bits::tell_put))]
 fn tell_bit(bits: u32) -> u32
     ensures { result ≡ tell_bit bits }
 {
-    if bits / 2 % 2 == 0 { bits + 2 } else { bits }
+    bits | Kcp::ASK_TELL
 }
 
 // The probe once a tell is to go out.

@@ -38,6 +38,7 @@ fn by_input(out: Outcome) -> Made
     }
 }
 
+// That of send.
 fn by_send(out: Sent) -> Made
     ensures { result ≡ made out.block (of_count out.answer 0) }
 {
@@ -47,6 +48,7 @@ fn by_send(out: Sent) -> Made
     }
 }
 
+// That of flush_ack, flush and update goes with the sums of what they put out.
 fn by_out(out: Out, lengths: u32, sum: u32) -> Made
     ensures { result ≡ made out.block (of_out out.answer out.datagrams lengths sum) }
 {
@@ -56,6 +58,7 @@ fn by_out(out: Out, lengths: u32, sum: u32) -> Made
     }
 }
 
+// One datagram, over the memory lent.
 fn input_step(block: Kcp, datagram: &[u8], lent: &mut LentMemory) -> Made
     ensures is { left result lent.new ≡ input_step (memory_of block lent.old) datagram.now }
     ensures kept { Kept lent.old lent.new }
@@ -93,6 +96,7 @@ fn send_in(
     by_send(kcp_send::send(block, snd_records, snd_room, message))
 }
 
+// Sends a message of so many bytes, if it is none too long.
 fn send_step(block: Kcp, row: Row, snd_records: &mut [u32], snd_room: &mut [u8]) -> Made
     ensures { record { block = result.block; answer = result.answer; snd = lists snd_records.new snd_room.new } ≡ send_step row block (lists snd_records.old snd_room.old) }
 {
@@ -110,6 +114,7 @@ fn send_step(block: Kcp, row: Row, snd_records: &mut [u32], snd_room: &mut [u8])
     )
 }
 
+// flush_ack, into buffers of its own.
 fn flush_ack_step(block: Kcp, acks: &[u32], waiting: &mut [u8]) -> Made
     ensures { record { block = result.block; answer = result.answer; waiting = waiting.new } ≡ flush_ack_step block acks.now waiting.old }
 {
@@ -119,7 +124,7 @@ fn flush_ack_step(block: Kcp, acks: &[u32], waiting: &mut [u8]) -> Made
     by_out(sent, sum_of(&lengths), sum_of(&out))
 }
 
-// update at a time, or flush where none is given.
+// update at a time, or flush where none is given: the calls that were recorded, and not the one turn that both are.
 #[tactic(auto, unfolding(crate::specs::Calls::flushed_of))]
 fn flushed(
     block: Kcp,
@@ -151,6 +156,7 @@ fn flushed(
     }
 }
 
+// The same into buffers of its own.
 fn flush_step(
     block: Kcp,
     current: Option<u32>,
@@ -177,7 +183,7 @@ fn flush_step(
     by_out(sent, sum_of(&lengths), sum_of(&out))
 }
 
-// flush_ack, and flush or update, over the memory lent.
+// flush_ack over the memory lent.
 fn ack_step(block: Kcp, lent: &mut LentMemory) -> Made
     ensures is { let m = memory_of block lent.old in left result lent.new ≡ with_acked m (flush_ack_step block m.acks m.waiting) }
     ensures kept { Kept lent.old lent.new }
@@ -187,6 +193,7 @@ fn ack_step(block: Kcp, lent: &mut LentMemory) -> Made
     flush_ack_step(block, acks, waiting)
 }
 
+// update at a time, or flush where none is given, over the memory lent.
 fn update_step(block: Kcp, current: Option<u32>, lent: &mut LentMemory) -> Made
     ensures is { let m = memory_of block lent.old in left result lent.new ≡ with_flushed m (flush_step current block m.snd m.acks m.waiting) }
     ensures kept { Kept lent.old lent.new }

@@ -106,6 +106,7 @@ fn starts_at(block: Kcp, rcv: u32, snd: u32) -> Kcp
     }
 }
 
+// What making a block left: its numbers start where the step says, and a refusal leaves the block of before.
 #[tactic(auto, unfolding(crate::specs::Looks::started))]
 fn started(block: Kcp, outcome: Result<Kcp, Refusal>, row: Row) -> Made
     ensures { result ≡ started row block outcome }
@@ -137,6 +138,7 @@ fn recv_in(block: Kcp, records: &[u32], room: &[u8], buf: &mut [u8]) -> Made
     by_recv(out, sum_of(buf))
 }
 
+// recv into a buffer of so many bytes, if it is none too long.
 fn recv_step(block: Kcp, len: usize, records: &[u32], room: &[u8]) -> Made
     ensures { result ≡ recv_step len block (lists records.now room.now) }
 {
@@ -185,6 +187,7 @@ fn put_in(buf: &mut [u8], handed: &[u8], conv: u32) -> Answer
     answered(as_refusal(put), sum_of(buf))
 }
 
+// The same, if there are few enough of them.
 #[tactic(auto, unfolding(crate::specs::Looks::put_in, serial::specs::Branch::pick))]
 fn put(handed: &[u8], conv: u32) -> Answer
     ensures { result ≡ put_in conv handed.now }

@@ -1,6 +1,5 @@
 // The steps of the recording, as the head of oracle/driver/src/bin/sample.rs has them, and the calls that they name.
 ghost use Rattle.std.specs.Prelude.{◌≡◌, ◌+◌, ◌≤◌, true, length};
-ghost use Rattle.wire.specs.LittleEndian.{le_at};
 ghost use Rattle.recorded.specs.Rows.{row_at, whole_at, Whole, call_of};
 
 // The bytes of a step's eleven numbers.
@@ -91,14 +90,6 @@ impl Row {
     }
 }
 
-// The number whose four bytes stand at `at`, the low one first.
-fn word(s: &[u8], at: usize) -> u32
-    requires { at + 4 ≤ length s.now }
-    ensures { result ≡ le_at 4 s.now at }
-{
-    u32::from_le_bytes([s[at], s[at + 1], s[at + 2], s[at + 3]])
-}
-
 // The eleven numbers at `at`.
 #[tactic(auto, unfolding(crate::specs::Rows::row_at))]
 pub fn row_at(s: &[u8], at: usize) -> Row
@@ -106,17 +97,17 @@ pub fn row_at(s: &[u8], at: usize) -> Row
     ensures { result ≡ row_at s.now at }
 {
     Row {
-        code: word(s, at),
-        a: word(s, at + 4),
-        b: word(s, at + 8),
-        c: word(s, at + 12),
-        d: word(s, at + 16),
-        bytes: word(s, at + 20),
-        refusal: word(s, at + 24),
-        first: word(s, at + 28),
-        second: word(s, at + 32),
-        sum: word(s, at + 36),
-        numbers: word(s, at + 40),
+        code: wire::word(s, at),
+        a: wire::word(s, at + 4),
+        b: wire::word(s, at + 8),
+        c: wire::word(s, at + 12),
+        d: wire::word(s, at + 16),
+        bytes: wire::word(s, at + 20),
+        refusal: wire::word(s, at + 24),
+        first: wire::word(s, at + 28),
+        second: wire::word(s, at + 32),
+        sum: wire::word(s, at + 36),
+        numbers: wire::word(s, at + 40),
     }
 }
 

@@ -1,7 +1,7 @@
 // Whether what the port answers and leaves is what the Rust answered and left, and the run over the recording.
 ghost use Rattle.std.specs.Prelude.{◌≡◌, ◌<◌, ◌≤◌, length};
 ghost use Rattle.ring.specs.Lists.{lists};
-ghost use Rattle.recorded.specs.Memory.{lent_of, memory_of};
+ghost use Rattle.recorded.specs.Memory.{lent_of, memory_of, Kept};
 ghost use Rattle.replay.specs.Judge.{answer_of, held_in, numbers_of, same, agrees, counted, judged};
 
 use block::Kcp;
@@ -151,7 +151,8 @@ impl Tally {
 
 // Makes every step of the recording, from this block on, and judges each. A place and no iterator, since how long a step is stands in the step.
 pub fn run(block: Kcp, recording: &[u8], lent: &mut LentMemory) -> Tally
-    ensures { result ≡ judged recording.now (memory_of block lent.old) }
+    ensures value { result ≡ judged recording.now (memory_of block lent.old) }
+    ensures kept { Kept lent.old lent.new }
 {
     let mut made = unplayed(block);
     let mut tally = Tally {

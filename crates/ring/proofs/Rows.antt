@@ -7,7 +7,7 @@ use native.Mathlib.Numerals.{add-one}
 use native.Mathlib.Decide.{dec_lt}
 use mathlib.Core.List.{List, [], ◌∷◌, ◌++◌, append_assoc, append-nil}
 use lib.ListN.{length, take, drop, get_or, set, length-append, length-drop, take-append-drop, drop_of_length-le}
-use lib.Seq.{set_split, append_snoc, take_at, drop_at, take-append-le, drop-append-le, drop-append-add, drop-drop, take-add, length-take-le, take-length, get_or-take, get_or-drop, take-take}
+use lib.Seq.{set_split, append_snoc, take_at, drop_at, take-append-le, drop-append-le, drop-append-add, drop-drop, take-add, length-take-le, take-length, get_or-take, get_or-drop, take-take, paste, paste-suc}
 use borrow.Author.Rules.{part_to_end}
 use Rattle.ring.proofs.Sequences.{drop-take}
 use Rattle.ring.specs.Records.{put, part, put_slot, part_slot, number_at}
@@ -153,6 +153,14 @@ pub by_way : (room src : List ℕ) (n : ℕ) (z t y : List ℕ) (at : ℕ) → l
 by_way room src n z t y at m h e d =
     let f : take (length src) t ≡ src = ap (λ (x : List ℕ). take (length src) x) (rw take-length at e) ∙ take_at src _ (length src) refl in
     by_copy room src y at (omega arith) (rw (← m, f) at d)
+
+-- i of the numbers are written
+pub put-turn : (l m x : List ℕ) (at i : ℕ) → at + length x ≤ length l → i < length x → m ≡ paste l at x i → set m (at + i) (get_or x i 0) ≡ paste l at x (i + 1)
+put-turn l m x at i h k e = rw (e, add-one) (paste-suc l at x i 0 (omega arith) k)
+
+pub put-end : (l m x : List ℕ) (at : ℕ) → m ≡ paste l at x (length x) → m ≡ put l at x
+unfolding put
+put-end l m x at e = rw (take-length x) at e
 
 -- x copied over the k numbers from `at` on
 pub put_over : (l x y : List ℕ) (at k : ℕ) → y ≡ x → k ≡ length x → take at l ++ (y ++ drop k (drop at l)) ≡ put l at x

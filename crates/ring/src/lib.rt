@@ -70,24 +70,18 @@ pub fn copy<T: Copy>(src: &[T], dst: &mut [T])
     dst[..src.len()].copy_from_slice(src);
 }
 
-// Writes a slot's numbers, as many as there are in a record; the other slots stay. Not by `lay`, whose array is as wide as a payload.
-#[tactic(auto, using(crate::proofs::Rows::put_over))]
+// Writes a slot's numbers, as many as there are in a record; the other slots stay. Number by number: by copy_from_slice, a call behind a test for
+// overlap, a push takes a twentieth longer and a send of 100 KiB a tenth, and the array of `lay` is as wide as a payload.
 pub fn put_record(records: &mut [u32], slot: usize, numbers: &[u32])
     requires { slot * length numbers.now + length numbers.now ≤ length records.old }
     ensures { records.new ≡ put_slot (length numbers.now) records.old slot 0 numbers.now }
 {
     let base = slot * numbers.len();
-    records[base..base + numbers.len()].copy_from_slice(numbers);
-}
-
-// Reads a slot's numbers, as many as there are in a record.
-#[tactic(auto, using(crate::proofs::Rows::part_range))]
-pub fn get_record(records: &[u32], slot: usize, numbers: &mut [u32])
-    requires { slot * length numbers.old + length numbers.old ≤ length records.now }
-    ensures { numbers.new ≡ part_slot (length numbers.old) records.now slot 0 (length numbers.old) }
-{
-    let base = slot * numbers.len();
-    numbers.copy_from_slice(&records[base..base + numbers.len()]);
+    let mut i = 0;
+    while i < numbers.len() {
+        records[base + i] = numbers[i];
+        i += 1;
+    }
 }
 
 // Number k of a slot's record.

@@ -128,7 +128,7 @@ impl Window {
         let incr = past_threshold(mss, self.incr);
         Window {
             cwnd: rounded_up(mss, incr, self.cwnd),
-            incr: incr,
+            incr,
         }
     }
 

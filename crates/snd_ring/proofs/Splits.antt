@@ -114,9 +114,6 @@ module _ (w : ℕ) (a b : List ℕ) (n : ℕ) (e : n ≡ length a / (w + 1)) whe
   unfolding store_of
   part-rows = rw (e, part_to_end)
 
-  pub part-within : (q : ℕ) → q < n → q * w + w ≤ length (take (length a - n) (drop n a))
-  part-within q h = let d = row_within w (length a) q (omega arith) in let l = rows-length w (lists a b) in rw part-rows (omega arith)
-
   module _ (y : List ℕ) (k : length y ≡ length (store_of w (lists a b)).rows) where
     abbrev back : List ℕ
     back = take n a ++ (y ++ drop (length a - n) (drop n a))

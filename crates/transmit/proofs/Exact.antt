@@ -4,12 +4,11 @@ use Prim.Native.Nat.{ℕ, ◌*◌, ◌/◌, ◌≤◌, ◌<◌}
 use native.Mathlib.Omega.{arith}
 use native.Mathlib.Decide.{ℕ_discrete}
 use mathlib.Core.Path.{◌≡◌, sym, ap, ◌∙◌, subst}
-use mathlib.Core.Bool.{Bool, true, false, not, ◌&&◌}
+use mathlib.Core.Bool.{Bool, ◌&&◌}
 use mathlib.Core.Logic.{◌⊎◌, inl, inr}
 use mathlib.Core.List.{List}
 use lib.ListN.{length}
 use Rattle.std.proofs.Common.{Option}
-use borrow.Author.Tests.{not-true, not-false}
 use Rattle.ring.specs.Lists.{Lists, lists}
 use Rattle.ring.proofs.Places.{place-zero}
 use Rattle.ring.proofs.Counting.{count_le}
@@ -21,7 +20,6 @@ use Rattle.block.specs.declared.Kcp.{Kcp}
 use Rattle.block.specs.Sizes.{send_slots, RingSizes}
 use Rattle.block.specs.WellFormed.{own_numbers, OwnNumbers, SenderFits}
 use Rattle.block.proofs.Exact.{Exactly, exactly_both, exactly_as, ring-sizes, own-numbers, send-numbers}
-use Rattle.block.proofs.Together.{goes, stops}
 use Rattle.sending.specs.declared.Ack.{Ack}
 use Rattle.transmit.specs.Memory.{Side, side, una_at, ack_at, fastack_at}
 use Rattle.transmit.specs.Fits.{send_lent, SendLent, send_fits, SendFits, Lies}
@@ -75,14 +73,6 @@ fits_of k l own sizes o =
         marked = o.marked;
       };
     }
-
--- what `fits` answers, where `own` tells whether the block's own numbers are well formed
-module _ (own : Bool) (s : Sender) (l : Lists) where
-  pub bad-own : not own ≡ true → false ≡ (own && send_lent s l)
-  bad-own h = stops _ (not-true own h)
-
-  pub by-lent : not own ≡ false → {t : Bool} → t ≡ send_lent s l → t ≡ (own && send_lent s l)
-  by-lent h e = e ∙ goes _ (not-false own h)
 
 -- and where that is asked of the block k
 pub fits-tested : (k : Kcp) {own : Bool} → own ≡ own_numbers k → (l : Lists) {t : Bool} → t ≡ (own && send_lent k.sender l) → t ≡ send_fits k l

@@ -6,7 +6,7 @@ use native.Mathlib.Numerals.{add-one}
 use mathlib.Core.Path.{◌≡◌, refl, sym, ap, ◌∙◌}
 use mathlib.Core.List.{List, [], ◌∷◌}
 use lib.ListN.{length, get_or, set, length-set}
-use lib.Seq.{get_or-set_same, get_or-set_other}
+use lib.Seq.{get_or-set_other}
 use borrow.Author.Tests.{eq-eqb, ne_eqb}
 use Rattle.ring.specs.Lists.{lists}
 use Rattle.ring.specs.Places.{place}
@@ -20,7 +20,7 @@ use Rattle.snd_ring.proofs.Splits.{marks-length, rows-length, mark-read}
 use Rattle.sending.specs.declared.Flight.{Flight}
 use Rattle.sending.specs.Flights.{raised_flight, raised_flights}
 use Rattle.transmit.specs.Memory.{fastack, raised_one, raised_from}
-use Rattle.transmit.proofs.Numbers.{by_eq, rows-room}
+use Rattle.transmit.proofs.Numbers.{rows-room}
 use Rattle.transmit.specs.Portions.{flight_at, none, Gathered, written_back, put_back, raised_run}
 
 -- ---- one place
@@ -74,16 +74,8 @@ module _ (f : Flight) (a room : List ℕ) (q : ℕ) (inside : q < length a / 9) 
 
 -- ---- the loops over a portion
 
--- one record more is gathered
-pub gathered_more : (m : Store) (q i : ℕ) (fs : List Flight) → i < length fs → Gathered m q i fs → {f : Flight} → f ≡ flight_at m (q + i) → Gathered m q (i + 1) (set fs i f)
-gathered_more m q i fs l g {f} e j h =
-    by_eq j i (λ d. rw d (get_or-set_same fs i f none l ∙ e)) (λ d. get_or-set_other fs i j f none d ∙ g j (omega arith))
-
 -- what is left to write from record i on
 module _ (fs : List Flight) (q n : ℕ) (m : Store) where
-  pub back_all : put_back fs q 0 (n - 0) m ≡ put_back fs q 0 n m
-  back_all = let e : n - 0 ≡ n = omega arith in rw e
-
   pub back_more : (i : ℕ) → i < n → {k : Store} → k ≡ written_back (get_or fs i none) (q + i) m → put_back fs q (i + 1) (n - (i + 1)) k ≡ put_back fs q i (n - i) m
   unfolding put_back
   back_more i h d = let e : n - i ≡ suc (n - (i + 1)) = omega arith in rw (e, d, add-one)

@@ -53,10 +53,6 @@ pub bytes_drop : (n : ℕ) (l : List ℕ) → Octets l → Octets (drop n l)
 bytes_drop n l h k = rw get_or-drop (h (n + k))
 
 module _ (s : List ℕ) where
-  -- the byte at p, and then those from q on
-  pub le_at-suc : (n p q : ℕ) → p < length s → suc p ≡ q → le_at (suc n) s p ≡ get_or s p 0 + 256 * le_at n s q
-  le_at-suc n p q h e = rw (drop-cons s p 0 h, e)
-
   part_length : (n p : ℕ) → p + n ≤ length s → length (take n (drop p s)) ≡ n
   part_length n p h = length-take-le n (drop p s) (simp length-drop (omega arith))
 

@@ -94,8 +94,8 @@ fn half(s: &[u8], at: usize) -> u16
     u16::from_le_bytes([s[at], s[at + 1]])
 }
 
-// The number whose four bytes stand at `at`.
-fn word(s: &[u8], at: usize) -> u32
+// The number whose four bytes stand at `at`, the low one first.
+pub fn word(s: &[u8], at: usize) -> u32
     requires { at + 4 ≤ length s.now }
     ensures { result ≡ le_at 4 s.now at }
 {

@@ -6,7 +6,7 @@ use Rattle.due.proofs.due_write.Goals as goal
 pub runs_of-runs-requires : goal.runs_of-runs-requires
 runs_of-runs-requires c =
     let a = c.args in
-    let w = ring-numbers a.told a.pace a.dead_link a.mtu c.requires.mtu_bound a.ring a.records.now a.room.now a.out.now a.lengths.now a.packer a.tally c.requires.sound c.requires.roomy c.slots_in-slots.ensures in
+    let w = ring-numbers a.way.told a.way.pace a.way.dead_link a.way.mtu c.requires.mtu_bound a.ring a.records.now a.room.now a.out.now a.lengths.now a.before.packer a.before.tally c.requires.sound c.requires.roomy c.slots_in-slots.ensures in
     record {
       slots_bound = w.0;
       start_lt_slots = w.1;
@@ -23,7 +23,7 @@ write_run-w-requires c =
       from_le_to = r.low;
       to_in_bounds = omega arith;
       mtu_bound = c.requires.mtu_bound;
-      fits = first_run a.told a.pace a.dead_link a.mtu c.requires.mtu_bound a.ring a.records.now a.room.now a.out.now a.lengths.now a.packer a.tally c.requires.sound c.requires.roomy e r;
+      fits = first_run a.way.told a.way.pace a.way.dead_link a.way.mtu c.requires.mtu_bound a.ring a.records.now a.room.now a.out.now a.lengths.now a.before.packer a.before.tally c.requires.sound c.requires.roomy e r;
     }
 
 pub write_run-requires : goal.write_run-requires
@@ -35,10 +35,10 @@ write_run-requires c =
       from_le_to = omega arith;
       to_in_bounds = omega arith;
       mtu_bound = c.requires.mtu_bound;
-      fits = second_run a.told a.pace a.dead_link a.mtu c.requires.mtu_bound a.ring a.records.now a.room.now a.out.now a.lengths.now a.packer a.tally c.requires.sound c.requires.roomy e r c.write_run-w.ensures;
+      fits = second_run a.way.told a.way.pace a.way.dead_link a.way.mtu c.requires.mtu_bound a.ring a.records.now a.room.now a.out.now a.lengths.now a.before.packer a.before.tally c.requires.sound c.requires.roomy e r c.write_run-w.ensures;
     }
 
 pub returns : goal.returns
 returns c =
     let a = c.args in
-    both_runs a.told a.pace a.dead_link a.mtu c.requires.mtu_bound a.ring a.records.now a.room.now a.out.now a.lengths.now a.packer a.tally c.requires.sound c.requires.roomy c.slots_in-slots.ensures c.runs_of-runs.ensures c.write_run-w.ensures c.write_run.ensures
+    both_runs a.way.told a.way.pace a.way.dead_link a.way.mtu c.requires.mtu_bound a.ring a.records.now a.room.now a.out.now a.lengths.now a.before.packer a.before.tally c.requires.sound c.requires.roomy c.slots_in-slots.ensures c.runs_of-runs.ensures c.write_run-w.ensures c.write_run.ensures

@@ -24,7 +24,7 @@ pub finish-requires : goal.finish-requires
 finish-requires c =
     let a = c.args in
     let l = rw c.requires.plan_value at (c.launch-sender.ensures a.room.now) in
-    let f = finish-asks a.block a.records.now a.room.now c.requires.sound l c.requires.rear_fits c.requires.mtu_bound (rw (c.requires.plan_value, c.uncounted-none.ensures) at c.due_write-written.ensures) in
+    let f = finish-asks a.block a.records.now a.room.now c.requires.sound l c.requires.rear_fits c.requires.mtu_bound (rw (c.requires.plan_value, c.uncounted.ensures) at c.due_write-written.ensures) in
     record {
       used_bound = f.0;
       used_bound_2 = f.1;
@@ -35,4 +35,4 @@ pub returns : goal.returns
 returns c =
     let a = c.args in
     let l = rw c.requires.plan_value at (c.launch-sender.ensures a.room.now) in
-    rear_left a.block a.records.now a.room.now c.requires.sound l c.requires.rear_fits c.requires.mtu_bound (rw (c.requires.plan_value, c.uncounted-none.ensures) at c.due_write-written.ensures) c.finish.ensures.lengths_after
+    rear_left a.block a.records.now a.room.now c.requires.sound l c.requires.rear_fits c.requires.mtu_bound (rw (c.requires.plan_value, c.uncounted.ensures) at c.due_write-written.ensures) c.finish.ensures.lengths_after

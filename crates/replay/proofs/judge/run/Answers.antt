@@ -52,4 +52,8 @@ loop-made-preserved c =
     )
 
 pub returns : goal.returns
-returns c = from_block _ c.args.lent.now c.unplayed-made.ensures (ends _ c.loop-made.invariant.0 c.whole.ensures.value c.loop-made-test.false)
+returns c =
+    record {
+      value = from_block _ c.args.lent.now c.unplayed-made.ensures (ends _ c.loop-made.invariant.0 c.whole.ensures.value c.loop-made-test.false);
+      kept = c.loop-made.invariant.1;
+    }
