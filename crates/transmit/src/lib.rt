@@ -67,7 +67,8 @@ fn ends(sn: u32, n: u32) -> bool
 }
 
 // The first of the places from `from` up to `to` where the search for sn ends, or `to`. The number is looked at before the mark, since few of the
-// numbers end it. A while and two ifs: by `for` and `&&` the search takes 1.6 times as long.
+// numbers end it. A while and two ifs: by `for` and `&&` the search takes 1.6 times as long. Not inlined, so that its loop keeps the list's address.
+#[inline(never)]
 fn seek_run(records: &[u32], from: usize, to: usize, sn: u32) -> usize
     requires from_le_to { from ≤ to }
     requires to_le_slots { to ≤ length records.now / 9 }
