@@ -64,8 +64,11 @@ impl RcvRing {
         let start = self.start as usize;
         let queued = self.queued as usize;
         let queue = ring::tally(records, start, 0, queued, SEGMENT, FAULT);
+        if queue.low != self.queued || queue.high != 0 {
+            return false;
+        }
         let reach = ring::tally(records, start, queued, self.reach as usize, SEGMENT, FAULT);
-        queue.low == self.queued && queue.high == 0 && reach.high == 0
+        reach.high == 0
     }
 
     // Whether distance d is held.

@@ -156,7 +156,9 @@ fn flushed(
     }
 }
 
-// The same into buffers of its own.
+// The same into buffers of its own. Inlined, as `update_step` is, so that these lie where those of the other calls do, and a program that lends its
+// memory on the stack needs no room for both.
+#[inline(always)]
 fn flush_step(
     block: Kcp,
     current: Option<u32>,
@@ -194,6 +196,7 @@ fn ack_step(block: Kcp, lent: &mut LentMemory) -> Made
 }
 
 // update at a time, or flush where none is given, over the memory lent.
+#[inline(always)]
 fn update_step(block: Kcp, current: Option<u32>, lent: &mut LentMemory) -> Made
     ensures is { let m = memory_of block lent.old in left result lent.new ≡ with_flushed m (flush_step current block m.snd m.acks m.waiting) }
     ensures kept { Kept lent.old lent.new }

@@ -62,12 +62,11 @@ impl SndRing {
         let start = self.start as usize;
         let reach = self.reach as usize;
         let flight = ring::tally(marks, start, 0, reach, SEGMENT, FAULT);
+        if flight.high != 0 || flight.low != self.flying {
+            return false;
+        }
         let waiting = ring::tally(marks, start, reach, self.unsent as usize, SEGMENT, FAULT);
-        flight.high == 0
-            && flight.low == self.flying
-            && waiting.high == 0
-            && waiting.low == self.unsent
-            && (reach == 0 || marks[start] != 0)
+        waiting.high == 0 && waiting.low == self.unsent && (reach == 0 || marks[start] != 0)
     }
 
     // One segment more waits, behind the others.
