@@ -73,22 +73,23 @@ rounded-up n {m} pos =
     let z : (n + (m - 1) - c * m) / m ≡ 0 = div-eq_of_lt (omega (arith, h.0, h.1)) in
     ap (λ (k : ℕ). k / m) e ∙ mul-add-div_right pos c (n + (m - 1) - c * m) ∙ rw z (add-zero c)
 
-module _ (mss : ℕ) (stream : Bool) (n : ℕ) (pos : 0 < mss) where
-  pub pieces-some : 0 < n → n / mss + min 1 (n % mss) ≡ pieces mss stream n
+module _ (mss : ℕ) (stream : Bool) where
+  pub pieces_none : {n : ℕ} → n ≡ 0 → (stream ≡ true → pieces mss stream n ≡ 0) × (stream ≡ false → pieces mss stream n ≡ 1)
   unfolding pieces
-  pieces-some h = sym (pick-false _ _ (ne_eqb n 0 (λ z. omega arith)) ∙ rounded-up n pos)
+  pieces_none {n} z = (λ e. pick_true _ _ (eq-eqb n 0 z) ∙ pick_true _ _ e, λ e. pick_true _ _ (eq-eqb n 0 z) ∙ pick-false _ _ e)
 
-  pub pieces_none : n ≡ 0 → stream ≡ true → n / mss + min 1 (n % mss) ≡ pieces mss stream n
-  unfolding pieces
-  pieces_none z e =
-      let q : n / mss ≡ 0 = div-eq_of_lt (omega arith) in
-      let r : n % mss ≡ 0 = mod-eq_of_lt (omega arith) ∙ z in
-      let s : n / mss + min 1 (n % mss) ≡ 0 = omega (arith, q, r) in
-      s ∙ sym (pick_true _ _ (eq-eqb n 0 z) ∙ pick_true _ _ e)
+  module _ (n : ℕ) (pos : 0 < mss) where
+    pub pieces-some : 0 < n → n / mss + min 1 (n % mss) ≡ pieces mss stream n
+    unfolding pieces
+    pieces-some h = sym (pick-false _ _ (ne_eqb n 0 (λ z. omega arith)) ∙ rounded-up n pos)
 
-  pub pieces_one : n ≡ 0 → stream ≡ false → 1 ≡ pieces mss stream n
-  unfolding pieces
-  pieces_one z e = sym (pick_true _ _ (eq-eqb n 0 z) ∙ pick-false _ _ e)
+    -- of no bytes, the quotient rounded up is 0
+    pub pieces_zero : n ≡ 0 → stream ≡ true → n / mss + min 1 (n % mss) ≡ pieces mss stream n
+    pieces_zero z e =
+        let q : n / mss ≡ 0 = div-eq_of_lt (omega arith) in
+        let r : n % mss ≡ 0 = mod-eq_of_lt (omega arith) ∙ z in
+        let s : n / mss + min 1 (n % mss) ≡ 0 = omega (arith, q, r) in
+        s ∙ sym ((pieces_none z).0 e)
 
 -- ---- 8, 12, or neither
 

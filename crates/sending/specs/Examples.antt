@@ -1,9 +1,9 @@
 -- The rules of the sending side on closed cases, each of which the Rust was seen to answer so. Assumes nothing.
-use Rattle.std.specs.Prelude.{ℕ, ◌+◌, ◌^◌, ◌≡◌, refl, true, false, List, [], ◌∷◌, ◌++◌, Some, None}
+use Rattle.std.specs.Prelude.{ℕ, ◌+◌, ◌^◌, ◌≡◌, refl, true, false, List, [], ◌∷◌, ◌++◌, map, Some, None}
 use Rattle.serial.specs.Branch.{pick}
 use Rattle.sending.specs.declared.Flight.{Flight}
 use Rattle.sending.specs.declared.Ack.{Ack}
-use Rattle.sending.specs.Rules.{acknowledged_by, una_of, in_range, seek, meets, Sending, later, gains, fastack_of, parse_fastack, past_threshold, rounded_up, opened, cut_to, grown}
+use Rattle.sending.specs.Rules.{acknowledged_by, una_of, in_range, seek, meets, Segment, Sending, raised, later, gains, fastack_of, parse_fastack, past_threshold, rounded_up, opened, cut_to, grown}
 use Rattle.sending.specs.Flights.{raised_flights}
 
 -- una exactly 2^31 past a number drops it not, and one less drops it; the front number is the new snd_una, or snd_nxt
@@ -45,10 +45,16 @@ first_two : raised_flights 2 10 (flight 0 4 ∷ flight 2 7 ∷ []) ++ (flight 1 
 unfolding flight fastack_of gains pick
 first_two = refl
 
+-- numbers from 0 up to 3 were sent
+three : List Segment → List Segment → Sending
+three l m = record { una = 0; next = 3; flying = l; waiting = m }
+
 -- max_ack that was never sent counts for none, and no ack for none; one in flight counts
 none : ((s : Sending) → parse_fastack None s ≡ s) × (in_range 0 3 1000 ≡ false) × (in_range 0 3 1 ≡ true)
-unfolding in_range parse_fastack
-none = ((λ s. refl), refl, refl)
+    × ((l m : List Segment) → parse_fastack (Some (ack 1000 10)) (three l m) ≡ three l m)
+    × ((l m : List Segment) → parse_fastack (Some (ack 1 10)) (three l m) ≡ three (map (raised 1 10) l) m)
+unfolding in_range parse_fastack three ack
+none = ((λ s. refl), refl, refl, (λ l m. refl), (λ l m. refl))
 
 -- the growth from scratch, one ack each, and with the cast: mss 26, (2002, 2954952) gives cwnd 48117, of 113653 uncast
 grow : (grown 1376 2 128 (record { cwnd = 1; incr = 1376 }) ≡ record { cwnd = 2; incr = 2752 })

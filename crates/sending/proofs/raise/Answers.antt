@@ -7,7 +7,7 @@ use Rattle.sending.proofs.raise.Goals as goal
 pub loop-f-preserved : goal.loop-f-preserved
 loop-f-preserved c =
     let a = c.args in
-    set-upto_of (raised_flight a.latest.sn a.latest.ts) c.loop-f.f-index a.flights.now c.loop-f.flights _ c.raised.result c.loop-f.invariant (omega arith) c.raised.ensures
+    set-upto_of (raised_flight a.latest.sn a.latest.ts) c.loop-f.f-index _ c.loop-f.flights _ c.raised.result c.loop-f.invariant (omega arith) c.raised.ensures
 
 pub returns : goal.returns
 returns c =
