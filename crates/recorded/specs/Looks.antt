@@ -1,6 +1,6 @@
 -- The calls of the recording that change no lent memory: the block that it leaves, which is what its contract says, and its answer as the
 -- numbers of a step. Assumes nothing.
-use Rattle.std.specs.Prelude.{ℕ, ◌+◌, Bool, not, List, [], ◌∷◌, length, ◌==◌, nat_lt, Result, Ok, Err}
+use Rattle.std.specs.Prelude.{ℕ, ◌+◌, Bool, not, List, [], ◌∷◌, length, ◌==◌, nat_lt, Option, Some, None, Result, Ok, Err}
 use Rattle.serial.specs.Branch.{pick}
 use Rattle.serial.specs.Wrap.{low16, signed32}
 use Rattle.ring.specs.Lists.{Lists}
@@ -14,11 +14,14 @@ use Rattle.block.specs.Setters.{set_mtu, set_interval, set_nodelay, set_rx_minrt
 use Rattle.kcp_receive.specs.Calls.{move_buf_of, peeksize_of, RecvOut, recv_of, set_wndsize_of}
 use Rattle.kcp_flush.specs.Calls.{check_of}
 use Rattle.recorded.specs.declared.rows.Row.{Row}
+use Rattle.recorded.specs.declared.rows.Call.{Call}
+use Rattle.recorded.specs.declared.rows.Call.TheVariants.{Look as Looks}
 use Rattle.recorded.specs.declared.rows.Look.{Look}
 use Rattle.recorded.specs.declared.rows.Look.TheVariants.{New, Recv, Peeksize, MoveBuf, SetWndsize, Check, SetMtu, SetInterval, SetNodelay, SetRxMinrto, SetFastResend, SetMaximumResendTimes, InputConv, SetConv, Get, GetConv, PutConv, GetSn}
 use Rattle.recorded.specs.declared.answers.Answer.{Answer}
 use Rattle.recorded.specs.declared.looks.Made.{Made}
 use Rattle.recorded.specs.Sums.{sum_of, zeros, bit, low32}
+use Rattle.recorded.specs.Rows.{call_of}
 use Rattle.recorded.specs.Answers.{told, refused_by, unknown, of_done, of_count, as_refusal}
 use Rattle.block.specs.declared.refusal.Refusal.{Refusal}
 
@@ -95,3 +98,19 @@ look_of Get r s k l = made k (told 0 (sum_of (gotten k)))
 look_of GetConv r s k l = made k (of_count (as_refusal (got conv_of s)) 0)
 look_of PutConv r s k l = made k (put_in r.a s)
 look_of GetSn r s k l = made k (of_count (as_refusal (got sn_of s)) 0)
+
+-- ---- the same for any step, where the lists are lent to be looked at alone
+
+-- a code under 5 names a call that changes them: set_wndsize is made in its place
+unfoldable pub look_by : Option Call → Option Look
+look_by (Some (Looks look)) = Some look
+look_by (Some _) = Some SetWndsize
+look_by None = None
+
+unfoldable pub looked_by : Option Look → Row → List ℕ → Kcp → Lent → Made
+looked_by (Some look) r s k l = look_of look r s k l
+looked_by None r s k l = made k unknown
+
+-- whatever the code is; one that names no call leaves the block
+unfoldable pub look_of_row : Row → List ℕ → Kcp → Lent → Made
+look_of_row r s k l = looked_by (look_by (call_of r.code)) r s k l

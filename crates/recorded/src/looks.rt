@@ -6,11 +6,11 @@ ghost use Rattle.kcp_receive.specs.Calls.{recv_of};
 ghost use Rattle.recorded.specs.Sums.{sum_of, low32};
 ghost use Rattle.recorded.specs.Answers.{unknown, of_done, of_count, as_refusal};
 ghost use Rattle.recorded.specs.Memory.{lent_of};
-ghost use Rattle.recorded.specs.Looks.{made, by_set, set_to, by_recv, starts_at, fresh_of, started, gotten, put_in, recv_step, look_of};
+ghost use Rattle.recorded.specs.Looks.{made, by_set, set_to, by_recv, starts_at, fresh_of, started, gotten, put_in, recv_step, look_of, look_by, look_of_row};
 
 use crate::answers::{Answer, answered, as_refusal, unknown};
 use crate::memory::LentMemory;
-use crate::rows::{Look, Row};
+use crate::rows::{Call, Look, Row};
 use crate::sums::{filled, sum_of};
 use block::Kcp;
 use block::receiver::Receiver;
@@ -63,28 +63,36 @@ fn set_to(block: Kcp) -> Made
 
 // A block made anew, plain or stream.
 #[tactic(auto, unfolding(crate::specs::Looks::fresh_of, serial::specs::Branch::pick))]
-fn fresh(row: Row, lent: &LentMemory) -> Result<Kcp, Refusal>
-    ensures { result ≡ fresh_of row (lent_of lent.now) }
+fn fresh(
+    row: Row,
+    rcv_records: &[u32],
+    rcv_room: &[u8],
+    snd_records: &[u32],
+    snd_room: &[u8],
+    acks: &[u32],
+    waiting: &[u8],
+) -> Result<Kcp, Refusal>
+    ensures { result ≡ fresh_of row (record { rcv = lists rcv_records.now rcv_room.now; snd = lists snd_records.now snd_room.now; acks = acks.now; waiting = waiting.now }) }
 {
     if row.b == 0 {
         return Kcp::new(
             row.a,
-            lent.rcv_records,
-            lent.rcv_room,
-            lent.snd_records,
-            lent.snd_room,
-            lent.acks,
-            lent.waiting,
+            rcv_records,
+            rcv_room,
+            snd_records,
+            snd_room,
+            acks,
+            waiting,
         );
     }
     Kcp::new_stream(
         row.a,
-        lent.rcv_records,
-        lent.rcv_room,
-        lent.snd_records,
-        lent.snd_room,
-        lent.acks,
-        lent.waiting,
+        rcv_records,
+        rcv_room,
+        snd_records,
+        snd_room,
+        acks,
+        waiting,
     )
 }
 
@@ -150,7 +158,7 @@ fn recv_step(block: Kcp, len: usize, records: &[u32], room: &[u8]) -> Made
 }
 
 // The low 32 bits of a wider number: a cast alone is to lose none.
-fn low32(x: usize) -> u32
+pub fn low32(x: usize) -> u32
     ensures { result ≡ low32 x }
 {
     (x % (1 << 32)) as u32
@@ -199,35 +207,52 @@ fn put(handed: &[u8], conv: u32) -> Answer
     put_in(&mut buf[..handed.len()], handed, conv)
 }
 
-// A call that changes no lent memory.
+// A call that changes no lent memory, over the six lists: `looked` and `look` both make it here.
 #[tactic(auto, unfolding(crate::specs::Looks::look_of))]
-pub fn looked(block: Kcp, look: Look, row: Row, handed: &[u8], lent: &LentMemory) -> Made
-    ensures { result ≡ look_of look row handed.now block (lent_of lent.now) }
+fn looked_over(
+    block: Kcp,
+    look: Look,
+    row: Row,
+    handed: &[u8],
+    rcv_records: &[u32],
+    rcv_room: &[u8],
+    snd_records: &[u32],
+    snd_room: &[u8],
+    acks: &[u32],
+    waiting: &[u8],
+) -> Made
+    ensures { result ≡ look_of look row handed.now block (record { rcv = lists rcv_records.now rcv_room.now; snd = lists snd_records.now snd_room.now; acks = acks.now; waiting = waiting.now }) }
 {
     match look {
-        Look::New => started(block, fresh(row, lent), row),
-        Look::Recv => recv_step(block, row.a as usize, lent.rcv_records, lent.rcv_room),
+        Look::New => started(
+            block,
+            fresh(
+                row,
+                rcv_records,
+                rcv_room,
+                snd_records,
+                snd_room,
+                acks,
+                waiting,
+            ),
+            row,
+        ),
+        Look::Recv => recv_step(block, row.a as usize, rcv_records, rcv_room),
         Look::Peeksize => Made {
             block,
-            answer: answered(
-                kcp_receive::peeksize(block, lent.rcv_records, lent.rcv_room),
-                0,
-            ),
+            answer: answered(kcp_receive::peeksize(block, rcv_records, rcv_room), 0),
         },
-        Look::MoveBuf => by_set(kcp_receive::move_buf(block, lent.rcv_records, lent.rcv_room)),
+        Look::MoveBuf => by_set(kcp_receive::move_buf(block, rcv_records, rcv_room)),
         Look::SetWndsize => by_set(kcp_receive::set_wndsize(
             block,
             (row.a & 0xFFFF) as u16,
             (row.b & 0xFFFF) as u16,
-            lent.rcv_records,
-            lent.rcv_room,
+            rcv_records,
+            rcv_room,
         )),
         Look::Check => Made {
             block,
-            answer: answered(
-                kcp_flush::check(block, row.a, lent.snd_records, lent.snd_room),
-                0,
-            ),
+            answer: answered(kcp_flush::check(block, row.a, snd_records, snd_room), 0),
         },
         Look::SetMtu => by_set(block.set_mtu(row.a as usize)),
         Look::SetInterval => set_to(block.set_interval(row.a)),
@@ -264,4 +289,67 @@ pub fn looked(block: Kcp, look: Look, row: Row, handed: &[u8], lent: &LentMemory
             answer: answered(as_refusal(wire::get_sn(handed)), 0),
         },
     }
+}
+
+// A call that changes no lent memory.
+pub fn looked(block: Kcp, look: Look, row: Row, handed: &[u8], lent: &LentMemory) -> Made
+    ensures { result ≡ look_of look row handed.now block (lent_of lent.now) }
+{
+    looked_over(
+        block,
+        look,
+        row,
+        handed,
+        lent.rcv_records,
+        lent.rcv_room,
+        lent.snd_records,
+        lent.snd_room,
+        lent.acks,
+        lent.waiting,
+    )
+}
+
+// The call to make for one that a step names, where the lists are lent to be looked at alone.
+#[tactic(auto, unfolding(crate::specs::Looks::look_by))]
+fn look_by(call: Option<Call>) -> Option<Look>
+    ensures { result ≡ look_by call }
+{
+    match call? {
+        Call::Look(look) => Some(look),
+        Call::Input | Call::Send | Call::FlushAck | Call::Flush | Call::Update => {
+            Some(Look::SetWndsize)
+        }
+    }
+}
+
+// The call of any step, over lists that are lent to be looked at alone: set_wndsize stands for a call that changes them.
+#[tactic(auto, unfolding(crate::specs::Looks::look_of_row, crate::specs::Looks::looked_by))]
+pub fn look(
+    block: Kcp,
+    row: Row,
+    handed: &[u8],
+    rcv_records: &[u32],
+    rcv_room: &[u8],
+    snd_records: &[u32],
+    snd_room: &[u8],
+    acks: &[u32],
+    waiting: &[u8],
+) -> Made
+    ensures { result ≡ look_of_row row handed.now block (record { rcv = lists rcv_records.now rcv_room.now; snd = lists snd_records.now snd_room.now; acks = acks.now; waiting = waiting.now }) }
+{
+    let Some(look) = look_by(row.call()) else {
+        return unplayed(block);
+    };
+    looked_over(
+        block,
+        look,
+        row,
+        handed,
+        rcv_records,
+        rcv_room,
+        snd_records,
+        snd_room,
+        acks,
+        waiting,
+    )
 }

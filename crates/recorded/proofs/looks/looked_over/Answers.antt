@@ -1,8 +1,8 @@
--- `recorded::looks::looked` meets its contract. Two arms that the search leaves: the signed numbers, and the sum over the getters. Assumes nothing.
+-- `recorded::looks::looked_over` meets its contract. Two arms that the search leaves: the signed numbers, and the sum over the getters. Assumes nothing.
 use Rattle.recorded.specs.Looks.{look_of}
 use Rattle.recorded.proofs.Loops.{sum_plain}
 use Rattle.recorded.proofs.Looking.{set-nodelay}
-use Rattle.recorded.proofs.looks.looked.Goals as goal
+use Rattle.recorded.proofs.looks.looked_over.Goals as goal
 
 pub returns-in-SetNodelay : goal.returns-in-SetNodelay
 unfolding look_of
