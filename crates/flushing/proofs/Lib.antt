@@ -1,3 +1,4 @@
+pub mod Choices
 pub mod Leaving
 pub mod Far
 pub mod Packing
