@@ -348,7 +348,7 @@ fn words_of(block: Kcp) -> [u32; 35]
 }
 
 // Writes all words of a block. One by one: by copy_from_slice, a call behind a test for overlap, the block and its words are laid out in memory first, and
-// kcp_input takes 25 ns longer, kcp_new twice as long.
+// kcp_input takes 25 ns longer, kcp_new three times as long.
 pub fn write(block: Kcp, words: &mut [u32])
     requires { length words.old ≡ 35 }
     ensures { words.new ≡ words_of block }
